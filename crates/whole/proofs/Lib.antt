@@ -1,0 +1,9 @@
+pub mod Below
+pub mod Ring
+pub mod Size
+pub mod Sign
+pub mod Rounding
+pub mod Product
+pub mod Word
+pub mod Divided
+pub mod Demands

@@ -1,0 +1,178 @@
+-- The laws of division rounded to the nearest, halves away from zero: `nearest` of naturals first, then `roundDiv`.
+-- Assumes nothing.
+use mathlib.Core.Path.{_≡_, refl, sym, ap, _∙_, subst}
+use mathlib.Core.Bool.{Bool, true, false}
+use Prim.Native.Nat.{ℕ, zero, suc, _+_, _-_, _*_, _/_, _%_, _<_, _≤_, suc-le-suc}
+use native.Mathlib.Nat.{mul-comm, mul-le-mul-left, lt-of-mul-lt-mul-left, lt-of-mul-lt-mul-right, le-div-iff-mul-le, div-add-mod, mod-lt, div-eq-of-lt, div-eq-of-lt-le}
+use native.Mathlib.Omega.{arith}
+use lib.Dec.{T, leb, leb→le, le→leb}
+use borrow.Author.Tests.{leb-true, leb-false}
+use lib.IntN.{ℤ, pos, negsuc, negℤ, natAbs, subℕ, _+ℤ_, _-ℤ_, _*ℤ_, negℤ-negℤ, -ℤ-+ℤ-cancel}
+use lib.Signed.{mag, quotZ, remZ, nonNeg, leZ, _≤ℤ_, leZ-yes}
+use Rattle.whole.specs.Round.{nearest, roundDiv}
+use Rattle.whole.proofs.Ring.{by-diff, pos-diff, diff-cong, ring₀, pos-sub, -ℤ-negℤ, negℤ-*ℤ}
+use Rattle.whole.proofs.Size.{abs-neg, abs-sub, abs-+, abs--, abs-*, abs-round, abs-zero}
+use Rattle.whole.proofs.Sign.{signed, by-sign, signed-+, signed-*, signed-quot, signed-rem, signed-round, signed-mag}
+
+-- ---- two naturals
+module _ (n : ℕ) {d : ℕ} (h : 0 < d) where
+  -- the quotient q is within half: 2 n - d < 2 q d ≤ 2 n + d
+  pub nearest-low : 2 * (nearest n d * d) ≤ 2 * n + d
+  nearest-low = omega (arith, div-add-mod (2 * n + d) (2 * d))
+
+  pub nearest-high : 2 * n < 2 * (nearest n d * d) + d
+  nearest-high = omega (arith, div-add-mod (2 * n + d) (2 * d), mod-lt (2 * n + d) {m = 2 * d} (omega arith))
+
+  -- and no other number is
+  pub nearest-only : (q : ℕ) → 2 * (q * d) ≤ 2 * n + d → 2 * n < 2 * (q * d) + d → nearest n d ≡ q
+  nearest-only q l k = div-eq-of-lt-le (2 * d) (omega arith) (omega arith)
+
+pub nearest-mono : {m n d : ℕ} → 0 < d → m ≤ n → nearest m d ≤ nearest n d
+nearest-mono {m} {n} {d} h l = below (lt-of-mul-lt-mul-left (2 * d) (omega (arith, nearest-low m h, nearest-high n h)))
+  where
+    below : nearest m d < nearest n d + 1 → nearest m d ≤ nearest n d
+    below k = omega arith
+
+pub nearest-exact : (q : ℕ) {d : ℕ} → 0 < d → nearest (q * d) d ≡ q
+nearest-exact q {d} h = nearest-only (q * d) h q (omega arith) (omega arith)
+
+pub nearest-≤ : (n : ℕ) {d : ℕ} → 0 < d → nearest n d ≤ n
+nearest-≤ n {d} h = below (lt-of-mul-lt-mul-left (2 * d) (omega (arith, nearest-low n h, mul-le-mul-left n h)))
+  where
+    below : nearest n d < n + 1 → nearest n d ≤ n
+    below k = omega arith
+
+-- ---- by the quotient and the remainder
+-- the remainder r, below d, holds the half d - d / 2 once or not at all
+rest-once : (r : ℕ) {d : ℕ} → 0 < d → r < d → nearest r d ≡ r / (d - d / 2)
+rest-once r {d} h l = go (leb (d - d / 2) r) refl
+  where
+    go : (t : Bool) → leb (d - d / 2) r ≡ t → nearest r d ≡ r / (d - d / 2)
+    go true e =
+        let k : d - d / 2 ≤ r = leb-true (d - d / 2) r e in
+        nearest-only r h 1 (omega arith) (omega arith) ∙ sym (div-eq-of-lt-le {k = 1} (d - d / 2) (omega arith) (omega arith))
+    go false e =
+        let k : r < d - d / 2 = leb-false (d - d / 2) r e in
+        nearest-only r h 0 (omega arith) (omega arith) ∙ sym (div-eq-of-lt k)
+
+-- a b / d, by what d goes into a and what is left
+pub nearest-split : (a b : ℕ) {d : ℕ} → 0 < d → nearest (a * b) d ≡ a / d * b + nearest (a % d * b) d
+nearest-split a b {d} h =
+    nearest-only (a * b) h (a / d * b + nearest (a % d * b) d)
+    (omega (arith, whole, nearest-low (a % d * b) h)) (omega (arith, whole, nearest-high (a % d * b) h))
+  where
+    whole : d * (a / d) * b + a % d * b ≡ a * b
+    whole = omega (arith, ap (λ (n : ℕ). n * b) (div-add-mod a d))
+
+pub nearest-split-both : (a b : ℕ) {d : ℕ} → 0 < d → nearest (a * b) d ≡ a / d * b + (a % d * (b / d) + nearest (a % d * (b % d)) d)
+nearest-split-both a b {d} h =
+    nearest-split a b h
+    ∙ ap (λ (n : ℕ). a / d * b + n)
+    (ap (λ (n : ℕ). nearest n d) (mul-comm (a % d) b)
+    ∙ nearest-split b (a % d) h
+    ∙ (λ i. mul-comm (b / d) (a % d) i + nearest (mul-comm (b % d) (a % d) i) d))
+
+pub nearest-rest : (a : ℕ) {d : ℕ} → 0 < d → nearest a d ≡ a / d + a % d / (d - d / 2)
+nearest-rest a {d} h =
+    nearest-only a h (a / d + a % d / (d - d / 2))
+    (omega (arith, div-add-mod a d, same, nearest-low (a % d) h)) (omega (arith, div-add-mod a d, same, nearest-high (a % d) h))
+  where
+    same : nearest (a % d) d * d ≡ a % d / (d - d / 2) * d
+    same = ap (λ (n : ℕ). n * d) (rest-once (a % d) h (mod-lt a h))
+
+-- ---- whole numbers
+pub round-neg : (n : ℤ) (d : ℕ) → roundDiv (negℤ n) d ≡ negℤ (roundDiv n d)
+unfolding roundDiv
+round-neg (pos zero) d = signed-round false zero d
+round-neg (pos (suc n)) d = refl
+round-neg (negsuc n) d = sym (negℤ-negℤ (pos (nearest (suc n) d)))
+
+pub round-mono : {m n : ℤ} {d : ℕ} → 0 < d → m ≤ℤ n → roundDiv m d ≤ℤ roundDiv n d
+unfolding roundDiv
+round-mono {m} {n} {d} h l = go m n (l .le)
+  where
+    below : (a b : ℕ) → T (leZ (negℤ (pos a)) (pos b))
+    below zero b = le→leb zero b (omega arith)
+    below (suc a) b = tt
+
+    turned : (a b : ℕ) → b ≤ a → T (leZ (negℤ (pos a)) (negℤ (pos b)))
+    turned a zero k = below a zero
+    turned zero (suc b) k = absurd (omega arith)
+    turned (suc a) (suc b) k = le→leb b a (omega arith)
+
+    go : (m n : ℤ) → T (leZ m n) → roundDiv m d ≤ℤ roundDiv n d
+    go (pos a) (pos b) t = leZ-yes (le→leb _ _ (nearest-mono h (leb→le a b t)))
+    go (pos a) (negsuc b) t = absurd t
+    go (negsuc a) (pos b) t = leZ-yes (below (nearest (suc a) d) (nearest b d))
+    go (negsuc a) (negsuc b) t = leZ-yes (turned (nearest (suc a) d) (nearest (suc b) d) (nearest-mono h (suc-le-suc (leb→le b a t))))
+
+pub round-exact : (q : ℤ) {d : ℕ} → 0 < d → roundDiv (q *ℤ pos d) d ≡ q
+round-exact q {d} h = ap (λ (x : ℤ). roundDiv (x *ℤ pos d) d) (by-sign q) ∙ go (nonNeg q) ∙ sym (by-sign q)
+  where
+    go : (s : Bool) → roundDiv (signed s (natAbs q) *ℤ pos d) d ≡ signed s (natAbs q)
+    go true = signed-round true (natAbs q * d) d ∙ ap pos (nearest-exact (natAbs q) h)
+    go false =
+        ap (λ (x : ℤ). roundDiv x d) (signed-* false true (natAbs q) d)
+        ∙ signed-round false (natAbs q * d) d
+        ∙ ap (signed false) (nearest-exact (natAbs q) h)
+
+module _ (n : ℤ) {d : ℕ} (h : 0 < d) where
+  -- the rounded quotient is within half
+  pub round-within : 2 * natAbs (roundDiv n d *ℤ pos d -ℤ n) ≤ d
+  unfolding roundDiv
+  round-within = go n
+    where
+      above : (a : ℕ) → 2 * natAbs (pos (nearest a d) *ℤ pos d -ℤ pos a) ≤ d
+      above a =
+          rw (pos-sub (nearest a d * d) a)
+          (omega (arith, abs-sub (nearest a d * d) a (d / 2) (omega (arith, nearest-low a h)) (omega (arith, nearest-high a h))))
+
+      turned : (x y : ℤ) → natAbs (negℤ x *ℤ pos d -ℤ negℤ y) ≡ natAbs (x *ℤ pos d -ℤ y)
+      turned x y =
+          ap natAbs (ap (λ (z : ℤ). z -ℤ negℤ y) (negℤ-*ℤ x (pos d)) ∙ -ℤ-negℤ (x *ℤ pos d) y) ∙ abs-neg (x *ℤ pos d -ℤ y)
+
+      go : (n : ℤ) → 2 * natAbs (roundDiv n d *ℤ pos d -ℤ n) ≤ d
+      go (pos a) = above a
+      go (negsuc a) = omega (arith, turned (pos (nearest (suc a) d)) (pos (suc a)), above (suc a))
+
+  -- what is within half is no farther from zero
+  pub round-farthest : (q : ℤ) → 2 * natAbs (q *ℤ pos d -ℤ n) ≤ d → natAbs q ≤ natAbs (roundDiv n d)
+  round-farthest q k =
+      rw abs-round (le-div-iff-mul-le {k = 2 * d} {x = natAbs q} {y = 2 * natAbs n + d} (omega arith) .1 (omega (arith, size)))
+    where
+      size : natAbs q * d ≤ natAbs (q *ℤ pos d -ℤ n) + natAbs n
+      size = omega (arith, abs-* q (pos d), ap natAbs (-ℤ-+ℤ-cancel (q *ℤ pos d) n), abs-+ (q *ℤ pos d -ℤ n) n)
+
+  -- what is nearer than half is the rounded quotient
+  pub round-only : (q : ℤ) → 2 * natAbs (q *ℤ pos d -ℤ n) < d → roundDiv n d ≡ q
+  round-only q k = abs-zero (roundDiv n d) q (none (lt-of-mul-lt-mul-right d (omega (arith, apart, round-within))))
+    where
+      regroup : (r q : ℤ) → r *ℤ pos d -ℤ n -ℤ (q *ℤ pos d -ℤ n) ≡ (r -ℤ q) *ℤ pos d
+      regroup r q = rw (by-diff r, by-diff q, by-diff n, pos-diff d) (simp ring₀ (diff-cong _ _ _ _ (omega arith)))
+
+      apart : natAbs (roundDiv n d -ℤ q) * d ≤ natAbs (roundDiv n d *ℤ pos d -ℤ n) + natAbs (q *ℤ pos d -ℤ n)
+      apart =
+          omega (
+            arith,
+            abs-* (roundDiv n d -ℤ q) (pos d),
+            ap natAbs (regroup (roundDiv n d) q),
+            abs-- (roundDiv n d *ℤ pos d -ℤ n) (q *ℤ pos d -ℤ n),
+          )
+
+      none : natAbs (roundDiv n d -ℤ q) < 1 → natAbs (roundDiv n d -ℤ q) ≡ 0
+      none l = omega arith
+
+pub mag-round : (n : ℤ) {d : ℕ} → 0 < d → mag (roundDiv n d) ≤ mag n
+mag-round n {d} h =
+    subst (λ (z : ℤ). mag (roundDiv z d) ≤ mag z) (sym (by-sign n))
+    (rw signed-round (signed-mag (nonNeg n) _ _ (nearest-≤ (natAbs n) h)))
+
+-- ---- by the quotient and the remainder, as the code works
+pub round-by-rest : (n : ℤ) {d : ℕ} → 0 < d → quotZ n (pos d) +ℤ quotZ (remZ n (pos d)) (pos (d - d / 2)) ≡ roundDiv n d
+round-by-rest n {d} h =
+    (λ i. quotZ (by-sign n i) (pos d) +ℤ quotZ (remZ (by-sign n i) (pos d)) (pos (d - d / 2)))
+    ∙ go (nonNeg n) (natAbs n)
+    ∙ ap (λ (x : ℤ). roundDiv x d) (sym (by-sign n))
+  where
+    go : (s : Bool) (a : ℕ) → quotZ (signed s a) (pos d) +ℤ quotZ (remZ (signed s a) (pos d)) (pos (d - d / 2)) ≡ roundDiv (signed s a) d
+    go s a = simp (signed-quot, signed-rem, signed-+, signed-round) (ap (signed s) (sym (nearest-rest a h)))

@@ -1,0 +1,94 @@
+-- A number by its sign and its size. An identity between terms of one sign is an identity of ℕ. Assumes nothing.
+use mathlib.Core.Path.{_≡_, refl, sym, ap, _∙_, subst}
+use mathlib.Core.Bool.{Bool, true, false}
+use Prim.Native.Nat.{ℕ, zero, suc, _+_, _*_, _/_, _%_, _<_, _≤_}
+use native.Mathlib.Nat.{add-zero, zero-add, zero-mul, mul-zero, zero-div, zero-mod, div-le-self, div-eq-of-lt}
+use native.Mathlib.Omega.{arith}
+use lib.Dec.{ltb→lt}
+use lib.IntN.{ℤ, pos, negsuc, negℤ, natAbs, _+ℤ_, _*ℤ_, +ℤ-idr, +ℤ-idl}
+use lib.Signed.{mag, quotZ, remZ, nonNeg, _<ℤ_}
+use Rattle.whole.specs.Round.{nearest, roundDiv}
+
+-- n, or -n
+abbrev pub signed : Bool → ℕ → ℤ
+signed true n = pos n
+signed false n = negℤ (pos n)
+
+-- the sign of a product, by those of its factors
+abbrev pub alike : Bool → Bool → Bool
+alike true t = t
+alike false true = false
+alike false false = true
+
+pub by-sign : (x : ℤ) → x ≡ signed (nonNeg x) (natAbs x)
+by-sign (pos n) = refl
+by-sign (negsuc n) = refl
+
+-- both signs of a zero
+zero-signed : (s : Bool) {m n : ℕ} → m ≡ 0 → n ≡ 0 → pos m ≡ signed s n
+zero-signed true p q = ap pos (p ∙ sym q)
+zero-signed false p q = ap pos p ∙ ap (λ (n : ℕ). negℤ (pos n)) (sym q)
+
+pub signed-+ : (s : Bool) (a b : ℕ) → signed s a +ℤ signed s b ≡ signed s (a + b)
+signed-+ true a b = refl
+signed-+ false zero b = +ℤ-idl (negℤ (pos b)) ∙ ap (signed false) (sym (zero-add b))
+signed-+ false (suc a) zero = +ℤ-idr (negsuc a) ∙ ap (signed false) (sym (add-zero (suc a)))
+signed-+ false (suc a) (suc b) = ap (signed false) (more a b)
+  where
+    more : (a b : ℕ) → suc (suc (a + b)) ≡ suc a + suc b
+    more a b = omega arith
+
+pub signed-* : (s t : Bool) (a b : ℕ) → signed s a *ℤ signed t b ≡ signed (alike s t) (a * b)
+signed-* true true a b = refl
+signed-* true false a zero = zero-signed false (mul-zero a) (mul-zero a)
+signed-* true false a (suc b) = refl
+signed-* false true zero b = zero-signed false (zero-mul b) (zero-mul b)
+signed-* false true (suc a) b = refl
+signed-* false false zero zero = refl
+signed-* false false zero (suc b) = sym (zero-signed false (zero-mul (suc b)) (zero-mul (suc b)))
+signed-* false false (suc a) zero = sym (zero-signed false (mul-zero (suc a)) (mul-zero (suc a)))
+signed-* false false (suc a) (suc b) = refl
+
+pub signed-quot : (s : Bool) (a k : ℕ) → quotZ (signed s a) (pos k) ≡ signed s (a / k)
+signed-quot true a k = refl
+signed-quot false zero k = zero-signed false (zero-div k) (zero-div k)
+signed-quot false (suc a) k = refl
+
+pub signed-rem : (s : Bool) (a k : ℕ) → remZ (signed s a) (pos k) ≡ signed s (a % k)
+signed-rem true a k = refl
+signed-rem false zero k = zero-signed false (zero-mod k) (zero-mod k)
+signed-rem false (suc a) k = refl
+
+nearest-zero : (d : ℕ) → nearest 0 d ≡ 0
+nearest-zero zero = refl
+nearest-zero (suc d) = div-eq-of-lt (less d)
+  where
+    less : (d : ℕ) → 2 * 0 + suc d < 2 * suc d
+    less d = omega arith
+
+pub signed-round : (s : Bool) (a d : ℕ) → roundDiv (signed s a) d ≡ signed s (nearest a d)
+unfolding roundDiv
+signed-round true a d = refl
+signed-round false zero d = zero-signed false (nearest-zero d) (nearest-zero d)
+signed-round false (suc a) d = refl
+
+-- of two of one sign, the smaller is held where the larger is
+pub signed-mag : (s : Bool) (a b : ℕ) → a ≤ b → mag (signed s a) ≤ mag (signed s b)
+signed-mag true a b h = h
+signed-mag false zero b h = omega arith
+signed-mag false (suc a) zero h = absurd (omega arith)
+signed-mag false (suc a) (suc b) h = omega arith
+
+pub mag-quot : (x : ℤ) (k : ℕ) → mag (quotZ x (pos k)) ≤ mag x
+mag-quot x k =
+    subst (λ (z : ℤ). mag (quotZ z (pos k)) ≤ mag z) (sym (by-sign x))
+    (rw signed-quot (signed-mag (nonNeg x) _ _ (div-le-self (natAbs x) k)))
+
+-- a number above zero
+pub above-is : {x : ℤ} → pos 0 <ℤ x → x ≡ pos (natAbs x)
+above-is {x = pos n} h = refl
+above-is {x = negsuc n} h = absurd (h .lt)
+
+pub above-zero : {x : ℤ} → pos 0 <ℤ x → 0 < natAbs x
+above-zero {x = pos n} h = ltb→lt 0 n (h .lt)
+above-zero {x = negsuc n} h = absurd (h .lt)

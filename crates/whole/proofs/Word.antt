@@ -1,0 +1,96 @@
+-- Signed words. A signed local is bits: `Holds w a x` says that the bits a of a signed integer of width w stand for the
+-- number x, which the width holds. One law for each arity serves every operation at every width, so that a derivation
+-- goes up the code, an operation a step, and no goal is rewritten: begin with `of` and `lit`, go on with `gives`, answer
+-- an operation's need with `asks`, and end with `.reads`. Assumes nothing.
+use mathlib.Core.Path.{_≡_, sym, ap, _∙_, subst}
+use mathlib.Core.Bool.{Bool}
+use Prim.Native.Nat.{ℕ, zero, suc, _<_, _≤_, _^_}
+use native.Mathlib.Nat.{lt-of-le-of-lt}
+use native.Mathlib.Omega.{arith}
+use lib.Dec.{T, ltb, ltb→lt}
+use lib.IntN.{ℤ, pos, negsuc, negℤ, natAbs, _-ℤ_, +ℤ-idl}
+use lib.Signed.{mag, natAbs-le, nonNeg}
+use lib.Pow.{pow-pos}
+use mir.Syntax.{Width}
+use mir.Val.{bits, hbits, Fits, SFits, toZ, ofZ}
+use mir.Facts.{toZ-ofZ, toZ-pos}
+
+pub record Holds (w : Width) (a : ℕ) (x : ℤ) : Type 0 where
+  pub reads : toZ w a ≡ x
+  pub holds : SFits w x
+
+-- ---- where a word comes from
+-- a parameter, a field, an element or a call's result
+pub of : {w : Width} {x : ℤ} → SFits w x → Holds w (ofZ w x) x
+of f = record { reads = toZ-ofZ f; holds = f }
+
+-- an unsigned word made a signed one keeps its bits
+pub from-unsigned : {w : Width} {n : ℕ} → n < 2 ^ hbits w → Holds w n (pos n)
+from-unsigned {w} h = record { reads = toZ-pos w h; holds = record { sfits = h } }
+
+-- a literal that is not negative: `lit 2 tt`
+pub lit : {w : Width} (n : ℕ) → T (ltb n (2 ^ hbits w)) → Holds w n (pos n)
+lit {w} n t = from-unsigned (ltb→lt n (2 ^ hbits w) t)
+
+pub none : {w : Width} → Holds w 0 (pos 0)
+none {w} = from-unsigned (pow-pos (hbits w))
+
+-- the same bits, by another name for the number
+pub to : {w : Width} {a : ℕ} {x y : ℤ} → x ≡ y → Holds w a x → Holds w a y
+to {w} e p = record { reads = p .reads ∙ e; holds = subst (SFits w) e (p .holds) }
+
+-- ---- operations on two words
+-- the bits that an operation writes
+abbrev pub wr : Width → (ℤ → ℤ → ℤ) → ℕ → ℕ → ℕ
+wr w op a b = ofZ w (op (toZ w a) (toZ w b))
+
+module _ (op : ℤ → ℤ → ℤ) {w : Width} {a b : ℕ} {x y : ℤ} (p : Holds w a x) (q : Holds w b y) where
+  same : op (toZ w a) (toZ w b) ≡ op x y
+  same = λ i. op (p .reads i) (q .reads i)
+
+  pub asks : SFits w (op x y) → SFits w (op (toZ w a) (toZ w b))
+  asks f = subst (SFits w) (sym same) f
+
+  pub gives : SFits w (op x y) → Holds w (wr w op a b) (op x y)
+  gives f = record { reads = toZ-ofZ (asks f) ∙ same; holds = f }
+
+-- -x, which the code has as 0 - x
+pub negated : {w : Width} {a : ℕ} {x : ℤ} → Holds w a x → SFits w (negℤ x) → Holds w (wr w _-ℤ_ 0 a) (negℤ x)
+negated {w} {a} {x} p f = to (+ℤ-idl (negℤ x)) (gives _-ℤ_ none p (subst (SFits w) (sym (+ℤ-idl (negℤ x))) f))
+
+-- a test of two words, as one of their numbers
+pub tested : (op : ℤ → ℤ → Bool) {w : Width} {a b : ℕ} {x y : ℤ} {t : Bool} → Holds w a x → Holds w b y → op (toZ w a) (toZ w b) ≡ t → op x y ≡ t
+tested op p q e = sym (λ i. op (p .reads i) (q .reads i)) ∙ e
+
+-- a divisor that is not zero
+pub not-zero : {w : Width} {b : ℕ} {y : ℤ} → Holds w b y → 0 < natAbs y → 0 < b
+not-zero {w} {b} {y} q h = go b (q .reads)
+  where
+    go : (b : ℕ) → toZ w b ≡ y → 0 < b
+    go zero e = subst (λ (z : ℤ). 0 < natAbs z) (sym e ∙ none {w = w} .reads) h
+    go (suc b) e = omega arith
+
+-- ---- casts between widths
+pub cast : {w : Width} (v : Width) {a : ℕ} {x : ℤ} → Holds w a x → SFits v x → Holds v (ofZ v (toZ w a)) x
+cast v p f = to (p .reads) (of (subst (SFits v) (sym (p .reads)) f))
+
+pub cast-asks : {w v : Width} {a : ℕ} {x : ℤ} → Holds w a x → SFits v x → SFits v (toZ w a)
+cast-asks {v = v} p f = subst (SFits v) (sym (p .reads)) f
+
+-- a signed word made an unsigned one is its size
+pub to-unsigned : {w : Width} {a n : ℕ} → Holds w a (pos n) → natAbs (toZ w a) ≡ n
+to-unsigned p = ap natAbs (p .reads)
+
+pub to-unsigned-asks : {w : Width} (v : Width) {a n : ℕ} → Holds w a (pos n) → n < 2 ^ bits v → T (nonNeg (toZ w a)) × Fits v (natAbs (toZ w a))
+to-unsigned-asks v p h = subst (λ (z : ℤ). T (nonNeg z) × Fits v (natAbs z)) (sym (p .reads)) (tt, record { fits = h })
+
+-- ---- a range, as a bound on the size in ℕ
+mag-≤ : (z : ℤ) → mag z ≤ natAbs z
+mag-≤ (pos n) = omega arith
+mag-≤ (negsuc n) = omega arith
+
+pub small : {w : Width} (z : ℤ) → natAbs z < 2 ^ hbits w → SFits w z
+small z h = record { sfits = lt-of-le-of-lt (mag-≤ z) h }
+
+pub sized : {w : Width} (z : ℤ) → SFits w z → natAbs z ≤ 2 ^ hbits w
+sized z f = natAbs-le z (f .sfits)
