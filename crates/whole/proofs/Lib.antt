@@ -1,9 +1,9 @@
 pub mod Below
 pub mod Ring
-pub mod Size
-pub mod Sign
+pub mod Sizes
+pub mod Signs
 pub mod Rounding
-pub mod Product
-pub mod Word
+pub mod Products
+pub mod Words
 pub mod Divided
 pub mod Demands

@@ -11,8 +11,8 @@ use lib.IntN.{ℤ, pos, negsuc, negℤ, natAbs, subℕ, _+ℤ_, _-ℤ_, _*ℤ_, 
 use lib.Signed.{mag, quotZ, remZ, nonNeg, leZ, _≤ℤ_, leZ-yes}
 use Rattle.whole.specs.Round.{nearest, roundDiv}
 use Rattle.whole.proofs.Ring.{by-diff, pos-diff, diff-cong, ring₀, pos-sub, -ℤ-negℤ, negℤ-*ℤ}
-use Rattle.whole.proofs.Size.{abs-neg, abs-sub, abs-+, abs--, abs-*, abs-round, abs-zero}
-use Rattle.whole.proofs.Sign.{signed, by-sign, signed-+, signed-*, signed-quot, signed-rem, signed-round, signed-mag}
+use Rattle.whole.proofs.Sizes.{abs-neg, abs-sub, abs-+, abs--, abs-*, abs-round, abs-zero}
+use Rattle.whole.proofs.Signs.{signed, by-sign, signed-+, signed-*-pos, signed-quot, signed-rem, signed-round, signed-mag}
 
 -- ---- two naturals
 module _ (n : ℕ) {d : ℕ} (h : 0 < d) where
@@ -107,14 +107,9 @@ round-mono {m} {n} {d} h l = go m n (l .le)
     go (negsuc a) (negsuc b) t = leZ-yes (turned (nearest (suc a) d) (nearest (suc b) d) (nearest-mono h (suc-le-suc (leb→le b a t))))
 
 pub round-exact : (q : ℤ) {d : ℕ} → 0 < d → roundDiv (q *ℤ pos d) d ≡ q
-round-exact q {d} h = ap (λ (x : ℤ). roundDiv (x *ℤ pos d) d) (by-sign q) ∙ go (nonNeg q) ∙ sym (by-sign q)
-  where
-    go : (s : Bool) → roundDiv (signed s (natAbs q) *ℤ pos d) d ≡ signed s (natAbs q)
-    go true = signed-round true (natAbs q * d) d ∙ ap pos (nearest-exact (natAbs q) h)
-    go false =
-        ap (λ (x : ℤ). roundDiv x d) (signed-* false true (natAbs q) d)
-        ∙ signed-round false (natAbs q * d) d
-        ∙ ap (signed false) (nearest-exact (natAbs q) h)
+round-exact q {d} h =
+    subst (λ (z : ℤ). roundDiv (z *ℤ pos d) d ≡ z) (sym (by-sign q))
+    (simp (signed-*-pos, signed-round) (ap (signed (nonNeg q)) (nearest-exact (natAbs q) h)))
 
 module _ (n : ℤ) {d : ℕ} (h : 0 < d) where
   -- the rounded quotient is within half
@@ -170,9 +165,5 @@ mag-round n {d} h =
 -- ---- by the quotient and the remainder, as the code works
 pub round-by-rest : (n : ℤ) {d : ℕ} → 0 < d → quotZ n (pos d) +ℤ quotZ (remZ n (pos d)) (pos (d - d / 2)) ≡ roundDiv n d
 round-by-rest n {d} h =
-    (λ i. quotZ (by-sign n i) (pos d) +ℤ quotZ (remZ (by-sign n i) (pos d)) (pos (d - d / 2)))
-    ∙ go (nonNeg n) (natAbs n)
-    ∙ ap (λ (x : ℤ). roundDiv x d) (sym (by-sign n))
-  where
-    go : (s : Bool) (a : ℕ) → quotZ (signed s a) (pos d) +ℤ quotZ (remZ (signed s a) (pos d)) (pos (d - d / 2)) ≡ roundDiv (signed s a) d
-    go s a = simp (signed-quot, signed-rem, signed-+, signed-round) (ap (signed s) (sym (nearest-rest a h)))
+    subst (λ (z : ℤ). quotZ z (pos d) +ℤ quotZ (remZ z (pos d)) (pos (d - d / 2)) ≡ roundDiv z d) (sym (by-sign n))
+    (simp (signed-quot, signed-rem, signed-+, signed-round) (ap (signed (nonNeg n)) (sym (nearest-rest (natAbs n) h))))

@@ -1,8 +1,9 @@
 // Whole numbers: division rounded to the nearest, the product of two scaled numbers, and the laws that the kit lacks. No geodesy.
 ghost use mathlib.Core.Path.{_≡_};
-ghost use Prim.Native.Nat.{_<_, _^_};
 ghost use lib.IntN.{pos, natAbs, _*ℤ_};
-ghost use lib.Signed.{mag, _<ℤ_};
+ghost use lib.Signed.{_<ℤ_};
+ghost use mir.Syntax.{w64};
+ghost use mir.Val.{SFits};
 ghost use Rattle.whole.specs.Round.{roundDiv, scale};
 
 // What 1 is in hundred-millionths.
@@ -24,13 +25,25 @@ pub fn rounded(n: i64) -> i64
     n / SCALE + n % SCALE / (SCALE / 2)
 }
 
-// p * u / SCALE to the nearest, wherever the answer is an i64, though p * u may not be one.
-// Both factors are split, as p = q * SCALE + r. All parts have the sign of p * u, so none is larger than the answer.
+// p * u / SCALE to the nearest, wherever that is an i64, though p * u may not be one.
+// Each factor is split by SCALE. All parts have the sign of p * u, so none is larger than the answer.
 pub fn scaled(p: i64, u: i64) -> i64
-    requires { ⌜ mag (roundDiv (p *ℤ u) scale) < 2 ^ 63 ⌝ }
+    requires { ⌜ SFits w64 (roundDiv (p *ℤ u) scale) ⌝ }
     ensures { λ r. ⌜ r ≡ roundDiv (p *ℤ u) scale ⌝ }
 {
     let q = p / SCALE;
-    let r = p % SCALE;
-    q * u + (r * (u / SCALE) + rounded(r * (u % SCALE)))
+    let r = p - q * SCALE;
+    let a = u / SCALE;
+    let b = u - a * SCALE;
+    q * u + (r * a + rounded(r * b))
+}
+
+// How far n is from zero, of the least i64 too, whose negative is no i64.
+pub fn size(n: i64) -> u64
+    ensures { λ r. ⌜ r ≡ natAbs n ⌝ }
+{
+    if n < 0 {
+        return (-(n + 1)) as u64 + 1;
+    }
+    n as u64
 }

@@ -6,7 +6,7 @@ use mir.Syntax.{w64}
 use mir.Val.{ofZ}
 use borrow.Author.Needs.{needs}
 use Rattle.whole.specs.Round.{scale}
-use Rattle.whole.proofs.Word.{Holds, of, lit}
+use Rattle.whole.proofs.Words.{Holds, of, lit}
 use Rattle.whole.proofs.Divided.{quot-asks, rest-asks, sum-asks, rounded-is}
 use Rattle.whole.proofs.rounded.Statement.{statement}
 use Rattle.whole.proofs.rounded.Tie as tie

@@ -3,17 +3,17 @@ use mathlib.Core.Path.{_≡_, sym, ap, _∙_, subst}
 use Prim.Native.Nat.{ℕ, _<_}
 use native.Mathlib.Omega.{arith}
 use lib.Dec.{lit<}
-use lib.IntN.{ℤ, pos, natAbs, _+ℤ_, _*ℤ_}
+use lib.IntN.{ℤ, pos, natAbs, _+ℤ_, _-ℤ_, _*ℤ_}
 use lib.Signed.{mag, quotZ, remZ}
 use mir.Syntax.{w64}
 use mir.Val.{SFits, ofZ}
 use mir.ValLaws.{sfits-le}
 use borrow.Author.Needs.{needs}
 use Rattle.whole.specs.Round.{roundDiv, scale}
-use Rattle.whole.proofs.Size.{abs-rem, abs-*-≤}
-use Rattle.whole.proofs.Product.{first, second, third, first-mag, second-mag, later-mag, parts-sum}
-use Rattle.whole.proofs.Word.{Holds, wr, of, to, lit, asks, gives, small}
-use Rattle.whole.proofs.Divided.{quot-asks, quot-is, rem-is}
+use Rattle.whole.proofs.Sizes.{abs-rem, abs-*-≤}
+use Rattle.whole.proofs.Products.{first, second, third, first-mag, second-mag, later-mag, parts-sum}
+use Rattle.whole.proofs.Words.{Holds, wr, of, to, lit, asks, gives, small}
+use Rattle.whole.proofs.Divided.{quot-asks, quot-is, times-asks, left-asks, left-is}
 use Rattle.whole.proofs.scaled.Statement.{statement}
 use Rattle.whole.proofs.scaled.Tie as tie
 
@@ -23,12 +23,12 @@ scale-is = lit scale tt
 above : 0 < scale
 above = lit< tt
 
--- the bits of a quotient by the scale, and of a remainder
+-- the bits of a quotient by the scale, and of what it leaves
 abbrev quo : ℤ → ℕ
 quo x = wr w64 quotZ (ofZ w64 x) scale
 
 abbrev rest : ℤ → ℕ
-rest x = wr w64 remZ (ofZ w64 x) scale
+rest x = wr w64 _-ℤ_ (ofZ w64 x) (wr w64 _*ℤ_ (quo x) scale)
 
 module _ (c : tie.Start) where
   abbrev p : ℤ
@@ -45,7 +45,7 @@ module _ (c : tie.Start) where
 
   -- what is no larger than the answer fits, as the answer does
   answer-fits : SFits w64 (roundDiv (p *ℤ u) scale)
-  answer-fits = record { sfits = c .pre }
+  answer-fits = c .pre
 
   first-fits : SFits w64 (first p u scale)
   first-fits = sfits-le (first-mag p u above) answer-fits
@@ -68,31 +68,37 @@ module _ (c : tie.Start) where
   first-is = gives _*ℤ_ (quot-is p-is scale-is above) u-is first-fits
 
   second-is : Holds w64 (wr w64 _*ℤ_ (rest p) (quo u)) (second p u scale)
-  second-is = gives _*ℤ_ (rem-is p-is scale-is above) (quot-is u-is scale-is above) second-fits
+  second-is = gives _*ℤ_ (left-is p-is scale-is above) (quot-is u-is scale-is above) second-fits
 
   rest-is : Holds w64 (wr w64 _*ℤ_ (rest p) (rest u)) (remZ p (pos scale) *ℤ remZ u (pos scale))
-  rest-is = gives _*ℤ_ (rem-is p-is scale-is above) (rem-is u-is scale-is above) rest-fits
+  rest-is = gives _*ℤ_ (left-is p-is scale-is above) (left-is u-is scale-is above) rest-fits
 
 div-q : tie.Need-div-q
 div-q c = quot-asks (p-is c) scale-is above
 
-rem-r : tie.Need-rem-r
-rem-r c = quot-asks (p-is c) scale-is above
+mul-r : tie.Need-mul-r
+mul-r c = times-asks (p-is c) scale-is above
+
+sub-r : tie.Need-sub-r
+sub-r c = left-asks (p-is c) scale-is above
+
+div-a : tie.Need-div-a
+div-a c = quot-asks (u-is c) scale-is above
+
+mul-b : tie.Need-mul-b
+mul-b c = times-asks (u-is c) scale-is above
+
+sub-b : tie.Need-sub-b
+sub-b c = left-asks (u-is c) scale-is above
 
 mul-result : tie.Need-mul-result
 mul-result c = asks _*ℤ_ (quot-is (p-is c) scale-is above) (u-is c) (first-fits c)
 
-div-result : tie.Need-div-result
-div-result c = quot-asks (u-is c) scale-is above
-
 mul-result-2 : tie.Need-mul-result-2
-mul-result-2 c = asks _*ℤ_ (rem-is (p-is c) scale-is above) (quot-is (u-is c) scale-is above) (second-fits c)
-
-rem-rounded : tie.Need-rem-rounded
-rem-rounded c = quot-asks (u-is c) scale-is above
+mul-result-2 c = asks _*ℤ_ (left-is (p-is c) scale-is above) (quot-is (u-is c) scale-is above) (second-fits c)
 
 mul-rounded : tie.Need-mul-rounded
-mul-rounded c = asks _*ℤ_ (rem-is (p-is c) scale-is above) (rem-is (u-is c) scale-is above) (rest-fits c)
+mul-rounded c = asks _*ℤ_ (left-is (p-is c) scale-is above) (left-is (u-is c) scale-is above) (rest-fits c)
 
 rounded-requires : tie.Need-rounded-requires
 rounded-requires c κs = search needs
@@ -120,11 +126,13 @@ scaled-spec =
     tie.close
     (tie.spec
     div-q
-    rem-r
+    mul-r
+    sub-r
+    div-a
+    mul-b
+    sub-b
     mul-result
-    div-result
     mul-result-2
-    rem-rounded
     mul-rounded
     rounded-requires
     add-result

@@ -2,11 +2,12 @@
 use mathlib.Core.Path.{_≡_, refl, sym, ap, _∙_, subst}
 use mathlib.Core.Bool.{Bool, true, false}
 use Prim.Native.Nat.{ℕ, zero, suc, _+_, _*_, _/_, _%_, _<_, _≤_}
-use native.Mathlib.Nat.{add-zero, zero-add, zero-mul, mul-zero, zero-div, zero-mod, div-le-self, div-eq-of-lt}
+use native.Mathlib.Nat.{add-zero, zero-add, zero-mul, mul-zero, zero-div, zero-mod, div-le-self, div-mul-le-self, div-eq-of-lt, mod-add-div'}
 use native.Mathlib.Omega.{arith}
-use lib.Dec.{ltb→lt}
-use lib.IntN.{ℤ, pos, negsuc, negℤ, natAbs, _+ℤ_, _*ℤ_, +ℤ-idr, +ℤ-idl}
-use lib.Signed.{mag, quotZ, remZ, nonNeg, _<ℤ_}
+use lib.Dec.{T, ltb→lt}
+use borrow.Author.Tests.{ltb-true}
+use lib.IntN.{ℤ, pos, negsuc, negℤ, natAbs, _+ℤ_, _-ℤ_, _*ℤ_, +ℤ-idr, +ℤ-idl, +ℤ-negℤ-cancel}
+use lib.Signed.{mag, quotZ, remZ, nonNeg, ltZ, _<ℤ_}
 use Rattle.whole.specs.Round.{nearest, roundDiv}
 
 -- n, or -n
@@ -49,6 +50,10 @@ signed-* false false zero (suc b) = sym (zero-signed false (zero-mul (suc b)) (z
 signed-* false false (suc a) zero = sym (zero-signed false (mul-zero (suc a)) (mul-zero (suc a)))
 signed-* false false (suc a) (suc b) = refl
 
+pub signed-*-pos : (s : Bool) (a b : ℕ) → signed s a *ℤ pos b ≡ signed s (a * b)
+signed-*-pos true a b = refl
+signed-*-pos false a b = signed-* false true a b
+
 pub signed-quot : (s : Bool) (a k : ℕ) → quotZ (signed s a) (pos k) ≡ signed s (a / k)
 signed-quot true a k = refl
 signed-quot false zero k = zero-signed false (zero-div k) (zero-div k)
@@ -58,6 +63,17 @@ pub signed-rem : (s : Bool) (a k : ℕ) → remZ (signed s a) (pos k) ≡ signed
 signed-rem true a k = refl
 signed-rem false zero k = zero-signed false (zero-mod k) (zero-mod k)
 signed-rem false (suc a) k = refl
+
+-- what a division leaves
+pub quot-rem : (x : ℤ) (k : ℕ) → x -ℤ quotZ x (pos k) *ℤ pos k ≡ remZ x (pos k)
+quot-rem x k =
+    subst (λ (z : ℤ). z -ℤ quotZ z (pos k) *ℤ pos k ≡ remZ z (pos k)) (sym (by-sign x))
+    (simp (signed-quot, signed-*-pos, signed-rem) (less (nonNeg x) (natAbs x)))
+  where
+    less : (s : Bool) (a : ℕ) → signed s a -ℤ signed s (a / k * k) ≡ signed s (a % k)
+    less s a =
+        ap (λ (z : ℤ). z -ℤ signed s (a / k * k)) (ap (signed s) (sym (mod-add-div' a k)) ∙ sym (signed-+ s (a % k) (a / k * k)))
+        ∙ +ℤ-negℤ-cancel (signed s (a % k)) (signed s (a / k * k))
 
 nearest-zero : (d : ℕ) → nearest 0 d ≡ 0
 nearest-zero zero = refl
@@ -84,7 +100,12 @@ mag-quot x k =
     subst (λ (z : ℤ). mag (quotZ z (pos k)) ≤ mag z) (sym (by-sign x))
     (rw signed-quot (signed-mag (nonNeg x) _ _ (div-le-self (natAbs x) k)))
 
--- a number above zero
+pub mag-times : (x : ℤ) (k : ℕ) → mag (quotZ x (pos k) *ℤ pos k) ≤ mag x
+mag-times x k =
+    subst (λ (z : ℤ). mag (quotZ z (pos k) *ℤ pos k) ≤ mag z) (sym (by-sign x))
+    (simp (signed-quot, signed-*-pos) (signed-mag (nonNeg x) _ _ (div-mul-le-self (natAbs x) k)))
+
+-- ---- what a test of the sign says
 pub above-is : {x : ℤ} → pos 0 <ℤ x → x ≡ pos (natAbs x)
 above-is {x = pos n} h = refl
 above-is {x = negsuc n} h = absurd (h .lt)
@@ -92,3 +113,11 @@ above-is {x = negsuc n} h = absurd (h .lt)
 pub above-zero : {x : ℤ} → pos 0 <ℤ x → 0 < natAbs x
 above-zero {x = pos n} h = ltb→lt 0 n (h .lt)
 above-zero {x = negsuc n} h = absurd (h .lt)
+
+pub below-zero : (x : ℤ) → ltZ x (pos 0) ≡ true → x ≡ negsuc (mag x)
+below-zero (pos n) t = absurd (omega (arith, ltb-true n 0 t))
+below-zero (negsuc n) t = refl
+
+pub from-zero : (x : ℤ) → ltZ x (pos 0) ≡ false → x ≡ pos (mag x)
+from-zero (pos n) t = refl
+from-zero (negsuc n) t = absurd (subst T t tt)

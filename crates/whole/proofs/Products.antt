@@ -2,13 +2,18 @@
 -- larger than the whole. Assumes nothing.
 use mathlib.Core.Path.{_≡_, sym, ap, _∙_}
 use mathlib.Core.Bool.{Bool}
-use Prim.Native.Nat.{ℕ, _+_, _*_, _/_, _%_, _<_, _≤_}
+use Prim.Native.Nat.{ℕ, _+_, _*_, _/_, _%_, _<_, _≤_, _^_}
+use native.Mathlib.Nat.{lt-of-le-of-lt}
 use native.Mathlib.Omega.{arith}
 use lib.IntN.{ℤ, pos, natAbs, _+ℤ_, _*ℤ_}
 use lib.Signed.{mag, quotZ, remZ, nonNeg}
+use mir.Syntax.{Width}
+use mir.Val.{hbits, SFits}
 use Rattle.whole.specs.Round.{nearest, roundDiv}
-use Rattle.whole.proofs.Sign.{signed, alike, by-sign, signed-+, signed-*, signed-quot, signed-rem, signed-round, signed-mag}
-use Rattle.whole.proofs.Rounding.{nearest-split-both}
+use Rattle.whole.proofs.Sizes.{abs-round, abs-*-≤}
+use Rattle.whole.proofs.Signs.{signed, alike, by-sign, signed-+, signed-*, signed-quot, signed-rem, signed-round, signed-mag}
+use Rattle.whole.proofs.Rounding.{nearest-mono, nearest-split-both}
+use Rattle.whole.proofs.Words.{small}
 
 abbrev pub first : ℤ → ℤ → ℕ → ℤ
 first p u d = quotZ p (pos d) *ℤ u
@@ -63,3 +68,10 @@ module _ (p u : ℤ) {d : ℕ} (h : 0 < d) where
 
   pub later-mag : mag (second p u d +ℤ third p u d) ≤ mag (roundDiv (p *ℤ u) d)
   later-mag = part-mag later-is (omega (arith, nearest-split-both a b h))
+
+-- ---- how large the rounded product is, by its factors' limits
+pub product-size : (p u : ℤ) {a b d : ℕ} → 0 < d → natAbs p ≤ a → natAbs u ≤ b → natAbs (roundDiv (p *ℤ u) d) ≤ nearest (a * b) d
+product-size p u {a} {b} {d} h k l = rw abs-round (nearest-mono h (abs-*-≤ p u k l))
+
+pub product-fits : (p u : ℤ) {a b d : ℕ} {w : Width} → 0 < d → natAbs p ≤ a → natAbs u ≤ b → nearest (a * b) d < 2 ^ hbits w → SFits w (roundDiv (p *ℤ u) d)
+product-fits p u {a} {b} {d} h k l m = small (roundDiv (p *ℤ u) d) (lt-of-le-of-lt (product-size p u h k l) m)

@@ -55,8 +55,15 @@ module _ (op : ℤ → ℤ → ℤ) {w : Width} {a b : ℕ} {x y : ℤ} (p : Hol
   gives f = record { reads = toZ-ofZ (asks f) ∙ same; holds = f }
 
 -- -x, which the code has as 0 - x
-pub negated : {w : Width} {a : ℕ} {x : ℤ} → Holds w a x → SFits w (negℤ x) → Holds w (wr w _-ℤ_ 0 a) (negℤ x)
-negated {w} {a} {x} p f = to (+ℤ-idl (negℤ x)) (gives _-ℤ_ none p (subst (SFits w) (sym (+ℤ-idl (negℤ x))) f))
+module _ {w : Width} {a : ℕ} {x : ℤ} (p : Holds w a x) (f : SFits w (negℤ x)) where
+  minus-fits : SFits w (pos 0 -ℤ x)
+  minus-fits = subst (SFits w) (sym (+ℤ-idl (negℤ x))) f
+
+  pub negated-asks : SFits w (pos 0 -ℤ toZ w a)
+  negated-asks = subst (λ (z : ℤ). SFits w (pos 0 -ℤ z)) (sym (p .reads)) minus-fits
+
+  pub negated : Holds w (ofZ w (pos 0 -ℤ toZ w a)) (negℤ x)
+  negated = record { reads = toZ-ofZ negated-asks ∙ ap (λ (z : ℤ). pos 0 -ℤ z) (p .reads) ∙ +ℤ-idl (negℤ x); holds = f }
 
 -- a test of two words, as one of their numbers
 pub tested : (op : ℤ → ℤ → Bool) {w : Width} {a b : ℕ} {x y : ℤ} {t : Bool} → Holds w a x → Holds w b y → op (toZ w a) (toZ w b) ≡ t → op x y ≡ t
