@@ -2,10 +2,9 @@
 -- At any width and by any divisor. Assumes nothing.
 use mathlib.Core.Path.{sym, subst}
 use Prim.Native.Nat.{ℕ, _-_, _/_, _<_}
-use native.Mathlib.Nat.{le-trans}
 use native.Mathlib.Omega.{arith}
 use lib.IntN.{ℤ, pos, _+ℤ_, _-ℤ_, _*ℤ_}
-use lib.Signed.{mag, mag-rem, quotZ, remZ}
+use lib.Signed.{mag-rem, quotZ, remZ}
 use mir.Syntax.{Width}
 use mir.Val.{SFits, toZ}
 use mir.ValLaws.{sfits-le}

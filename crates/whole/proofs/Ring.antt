@@ -108,6 +108,9 @@ pos-sub a b = same _ _ (omega (arith, add-is (pos a) (negℤ (pos b)), neg-is (p
 pub pos-sub-≤ : (a b : ℕ) → b ≤ a → pos a -ℤ pos b ≡ pos (a - b)
 pos-sub-≤ a b h = same _ _ (omega (arith, add-is (pos a) (negℤ (pos b)), neg-is (pos b)))
 
+pub negsuc-next : (k : ℕ) → negsuc k +ℤ pos 1 ≡ negℤ (pos k)
+negsuc-next k = same _ _ (omega (arith, add-is (negsuc k) (pos 1), neg-is (pos k)))
+
 pub *ℤ-assoc : (x y z : ℤ) → (x *ℤ y) *ℤ z ≡ x *ℤ (y *ℤ z)
 *ℤ-assoc x y z = rw (by-diff x, by-diff y, by-diff z) (simp ring (diff-cong _ _ _ _ (omega arith)))
 

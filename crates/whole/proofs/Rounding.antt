@@ -7,12 +7,12 @@ use native.Mathlib.Nat.{mul-comm, mul-le-mul-left, lt-of-mul-lt-mul-left, lt-of-
 use native.Mathlib.Omega.{arith}
 use lib.Dec.{T, leb, leb→le, le→leb}
 use borrow.Author.Tests.{leb-true, leb-false}
-use lib.IntN.{ℤ, pos, negsuc, negℤ, natAbs, subℕ, _+ℤ_, _-ℤ_, _*ℤ_, negℤ-negℤ, -ℤ-+ℤ-cancel}
-use lib.Signed.{mag, quotZ, remZ, nonNeg, leZ, _≤ℤ_, leZ-yes}
+use lib.IntN.{ℤ, pos, negsuc, negℤ, natAbs, _+ℤ_, _-ℤ_, _*ℤ_, negℤ-negℤ, -ℤ-+ℤ-cancel}
+use lib.Signed.{mag, quotZ, remZ, nonNeg, ltZ, leZ, _≤ℤ_, leZ-yes}
 use Rattle.whole.specs.Round.{nearest, roundDiv}
 use Rattle.whole.proofs.Ring.{by-diff, pos-diff, diff-cong, ring₀, pos-sub, -ℤ-negℤ, negℤ-*ℤ}
 use Rattle.whole.proofs.Sizes.{abs-neg, abs-sub, abs-+, abs--, abs-*, abs-round, abs-zero}
-use Rattle.whole.proofs.Signs.{signed, by-sign, signed-+, signed-*-pos, signed-quot, signed-rem, signed-round, signed-mag}
+use Rattle.whole.proofs.Signs.{signed, by-sign, signed-+, signed-*-pos, signed-quot, signed-rem, signed-round, signed-mag, below-zero, from-zero}
 
 -- ---- two naturals
 module _ (n : ℕ) {d : ℕ} (h : 0 < d) where
@@ -86,6 +86,15 @@ unfolding roundDiv
 round-neg (pos zero) d = signed-round false zero d
 round-neg (pos (suc n)) d = refl
 round-neg (negsuc n) d = sym (negℤ-negℤ (pos (nearest (suc n) d)))
+
+-- by a test of the sign
+pub round-below : (n : ℤ) (d : ℕ) → ltZ n (pos 0) ≡ true → roundDiv n d ≡ negℤ (pos (nearest (natAbs n) d))
+unfolding roundDiv
+round-below n d t = subst (λ (z : ℤ). roundDiv z d ≡ negℤ (pos (nearest (natAbs z) d))) (sym (below-zero n t)) refl
+
+pub round-from : (n : ℤ) (d : ℕ) → ltZ n (pos 0) ≡ false → roundDiv n d ≡ pos (nearest (natAbs n) d)
+unfolding roundDiv
+round-from n d t = subst (λ (z : ℤ). roundDiv z d ≡ pos (nearest (natAbs z) d)) (sym (from-zero n t)) refl
 
 pub round-mono : {m n : ℤ} {d : ℕ} → 0 < d → m ≤ℤ n → roundDiv m d ≤ℤ roundDiv n d
 unfolding roundDiv

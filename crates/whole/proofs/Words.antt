@@ -32,8 +32,8 @@ from-unsigned {w} h = record { reads = toZ-pos w h; holds = record { sfits = h }
 pub lit : {w : Width} (n : ℕ) → T (ltb n (2 ^ hbits w)) → Holds w n (pos n)
 lit {w} n t = from-unsigned (ltb→lt n (2 ^ hbits w) t)
 
-pub none : {w : Width} → Holds w 0 (pos 0)
-none {w} = from-unsigned (pow-pos (hbits w))
+pub zero-is : {w : Width} → Holds w 0 (pos 0)
+zero-is {w} = from-unsigned (pow-pos (hbits w))
 
 -- the same bits, by another name for the number
 pub to : {w : Width} {a : ℕ} {x y : ℤ} → x ≡ y → Holds w a x → Holds w a y
@@ -74,7 +74,7 @@ pub not-zero : {w : Width} {b : ℕ} {y : ℤ} → Holds w b y → 0 < natAbs y 
 not-zero {w} {b} {y} q h = go b (q .reads)
   where
     go : (b : ℕ) → toZ w b ≡ y → 0 < b
-    go zero e = subst (λ (z : ℤ). 0 < natAbs z) (sym e ∙ none {w = w} .reads) h
+    go zero e = subst (λ (z : ℤ). 0 < natAbs z) (sym e ∙ zero-is {w = w} .reads) h
     go (suc b) e = omega arith
 
 -- ---- casts between widths
@@ -98,6 +98,10 @@ mag-≤ (negsuc n) = omega arith
 
 pub small : {w : Width} (z : ℤ) → natAbs z < 2 ^ hbits w → SFits w z
 small z h = record { sfits = lt-of-le-of-lt (mag-≤ z) h }
+
+pub neg-fits : {w : Width} (k : ℕ) → k < 2 ^ hbits w → SFits w (negℤ (pos k))
+neg-fits zero h = record { sfits = h }
+neg-fits (suc k) h = record { sfits = omega arith }
 
 pub sized : {w : Width} (z : ℤ) → SFits w z → natAbs z ≤ 2 ^ hbits w
 sized z f = natAbs-le z (f .sfits)

@@ -18,11 +18,13 @@ pub fn round_div(n: i64, d: i64) -> i64
     n / d + n % d / (d - d / 2)
 }
 
-// n / SCALE likewise. The divisor is a literal, so that no division instruction is left.
+// n / SCALE likewise, by its size, to which half the divisor can always be added. This is the hot form: the divisor is a
+// literal, so that no division instruction is left.
 pub fn rounded(n: i64) -> i64
     ensures { λ r. ⌜ r ≡ roundDiv n scale ⌝ }
 {
-    n / SCALE + n % SCALE / (SCALE / 2)
+    let q = ((size(n) + SCALE as u64 / 2) / SCALE as u64) as i64;
+    if n < 0 { -q } else { q }
 }
 
 // p * u / SCALE to the nearest, wherever that is an i64, though p * u may not be one.
@@ -38,12 +40,13 @@ pub fn scaled(p: i64, u: i64) -> i64
     q * u + (r * a + rounded(r * b))
 }
 
-// How far n is from zero, of the least i64 too, whose negative is no i64.
-pub fn size(n: i64) -> u64
-    ensures { λ r. ⌜ r ≡ natAbs n ⌝ }
+// How far x is from zero, of the least i64 too, whose negative is no i64.
+pub fn size(x: i64) -> u64
+    ensures { λ r. ⌜ r ≡ natAbs x ⌝ }
 {
-    if n < 0 {
-        return (-(n + 1)) as u64 + 1;
+    if x < 0 {
+        (-(x + 1)) as u64 + 1
+    } else {
+        x as u64
     }
-    n as u64
 }

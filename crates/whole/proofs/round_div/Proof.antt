@@ -2,13 +2,13 @@
 use mathlib.Core.Path.{_≡_, sym, subst}
 use Prim.Native.Nat.{ℕ, _-_, _/_, _<_}
 use native.Mathlib.Omega.{arith}
-use lib.IntN.{ℤ, pos, natAbs, _-ℤ_}
+use lib.IntN.{pos, natAbs, _-ℤ_}
 use lib.Signed.{quotZ}
 use mir.Syntax.{w64}
 use mir.Val.{SFits, ofZ}
 use Rattle.whole.proofs.Ring.{pos-sub-≤}
 use Rattle.whole.proofs.Signs.{above-is, above-zero}
-use Rattle.whole.proofs.Words.{Holds, wr, of, to, lit, asks, gives, small, sized}
+use Rattle.whole.proofs.Words.{Holds, wr, of, to, lit, asks, gives}
 use Rattle.whole.proofs.Divided.{quot-asks, quot-is, rest-asks, sum-asks, rounded-is}
 use Rattle.whole.proofs.round_div.Statement.{statement}
 use Rattle.whole.proofs.round_div.Tie as tie

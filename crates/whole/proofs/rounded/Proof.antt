@@ -1,45 +1,64 @@
 -- `whole::rounded` meets its contract. Assumes nothing.
-use Prim.Native.Nat.{_<_}
-use lib.Dec.{lit<}
-use lib.IntN.{ℤ, pos}
+use mathlib.Core.Path.{_≡_, sym, ap, _∙_}
+use Prim.Native.Nat.{ℕ, _+_, _/_}
+use native.Mathlib.Omega.{arith}
+use borrow.Author.Needs.{needs}
+use lib.IntN.{ℤ, pos, natAbs}
+use lib.Signed.{ltZ}
 use mir.Syntax.{w64}
 use mir.Val.{ofZ}
-use borrow.Author.Needs.{needs}
-use Rattle.whole.specs.Round.{scale}
-use Rattle.whole.proofs.Words.{Holds, of, lit}
-use Rattle.whole.proofs.Divided.{quot-asks, rest-asks, sum-asks, rounded-is}
+use Rattle.whole.specs.Round.{nearest, scale}
+use Rattle.whole.proofs.Rounding.{round-below, round-from}
+use Rattle.whole.proofs.Words.{Holds, of, to, from-unsigned, zero-is, negated, negated-asks, tested, neg-fits, sized}
 use Rattle.whole.proofs.rounded.Statement.{statement}
 use Rattle.whole.proofs.rounded.Tie as tie
-
-scale-is : Holds w64 scale (pos scale)
-scale-is = lit scale tt
-
-half-is : Holds w64 50000000 (pos 50000000)
-half-is = lit 50000000 tt
-
-above : 0 < scale
-above = lit< tt
 
 n-is : (c : tie.Start) → Holds w64 (ofZ w64 (c .args .n)) (c .args .n)
 n-is c = of (c .fits .n)
 
-div-result : tie.Need-div-result
-div-result c = quot-asks (n-is c) scale-is above
+module _ (c : tie.After-size) where
+  abbrev a : ℕ
+  a = natAbs (c .before .args .n)
 
-rem-result : tie.Need-rem-result
-rem-result c = quot-asks (n-is c) scale-is above
+  size-is : c .size .result ≡ a
+  size-is = c .size .ensures ∙ ap natAbs (n-is (c .before) .reads)
 
-div-result-2 : tie.Need-div-result-2
-div-result-2 c = search needs
+  q-is : Holds w64 ((c .size .result + 50000000) / scale) (pos (nearest a scale))
+  q-is = to (ap pos (omega (arith, size-is))) (from-unsigned (omega (arith, size-is, sized _ (c .before .fits .n))))
 
-div-result-3 : tie.Need-div-result-3
-div-result-3 c = rest-asks (n-is c) scale-is half-is above
+size-requires : tie.Need-size-requires
+size-requires c κs = search needs
 
-add-result : tie.Need-add-result
-add-result c = sum-asks (n-is c) scale-is half-is above
+cast-q : tie.Need-cast-q
+cast-q c = search needs
+
+add-q : tie.Need-add-q
+add-q c = record { fits = omega (arith, size-is c, sized _ (c .before .fits .n)) }
+
+cast-q-2 : tie.Need-cast-q-2
+cast-q-2 c = search needs
+
+div-q : tie.Need-div-q
+div-q c = search needs
+
+cast-q-3 : tie.Need-cast-q-3
+cast-q-3 c = search needs
+
+sub-result : tie.Need-sub-result
+sub-result c = negated-asks (q-is (c .before)) (neg-fits _ (q-is (c .before) .holds .sfits))
 
 returns : tie.Need-returns
-returns c = rounded-is (n-is c) scale-is half-is above .reads
+returns c =
+    let s = c .before .before in
+    negated (q-is (c .before)) (neg-fits _ (q-is (c .before) .holds .sfits)) .reads
+    ∙ sym (round-below (s .args .n) scale (tested ltZ (n-is s) zero-is (c .if1 .taken)))
+
+returns-2 : tie.Need-returns-2
+returns-2 c =
+    let s = c .before .before in
+    q-is (c .before) .reads ∙ sym (round-from (s .args .n) scale (tested ltZ (n-is s) zero-is (c .if1 .left)))
 
 pub rounded-spec : {M : Type 1} → statement M
-rounded-spec = tie.close (tie.spec div-result rem-result div-result-2 div-result-3 add-result returns)
+rounded-spec =
+    tie.close
+    (tie.spec size-requires cast-q add-q cast-q-2 div-q cast-q-3 sub-result returns returns-2)
