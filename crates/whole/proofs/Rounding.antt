@@ -27,20 +27,17 @@ module _ (n : ℕ) {d : ℕ} (h : 0 < d) where
   pub nearest-only : (q : ℕ) → 2 * (q * d) ≤ 2 * n + d → 2 * n < 2 * (q * d) + d → nearest n d ≡ q
   nearest-only q l k = div-eq-of-lt-le (2 * d) (omega arith) (omega arith)
 
+at-most : {x y : ℕ} → x < y + 1 → x ≤ y
+at-most h = omega arith
+
 pub nearest-mono : {m n d : ℕ} → 0 < d → m ≤ n → nearest m d ≤ nearest n d
-nearest-mono {m} {n} {d} h l = below (lt-of-mul-lt-mul-left (2 * d) (omega (arith, nearest-low m h, nearest-high n h)))
-  where
-    below : nearest m d < nearest n d + 1 → nearest m d ≤ nearest n d
-    below k = omega arith
+nearest-mono {m} {n} {d} h l = at-most (lt-of-mul-lt-mul-left (2 * d) (omega (arith, nearest-low m h, nearest-high n h)))
 
 pub nearest-exact : (q : ℕ) {d : ℕ} → 0 < d → nearest (q * d) d ≡ q
 nearest-exact q {d} h = nearest-only (q * d) h q (omega arith) (omega arith)
 
 pub nearest-≤ : (n : ℕ) {d : ℕ} → 0 < d → nearest n d ≤ n
-nearest-≤ n {d} h = below (lt-of-mul-lt-mul-left (2 * d) (omega (arith, nearest-low n h, mul-le-mul-left n h)))
-  where
-    below : nearest n d < n + 1 → nearest n d ≤ n
-    below k = omega arith
+nearest-≤ n {d} h = at-most (lt-of-mul-lt-mul-left (2 * d) (omega (arith, nearest-low n h, mul-le-mul-left n h)))
 
 -- ---- by the quotient and the remainder
 -- the remainder r, below d, holds the half d - d / 2 once or not at all
