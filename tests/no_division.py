@@ -1,7 +1,7 @@
 #!/usr/bin/env python3
 """The compiled forms that divide by a constant hold no division instruction: reads the machine code of target/obj/pages.o.
 
-Rust's rule that a literal divisor becomes a multiplication is the compiler's, and nothing proves it: so it is looked at.
+That a division by a literal becomes a multiplication is the compiler's doing, and nothing proves it: so it is looked at.
 """
 import re
 import subprocess

@@ -6,7 +6,7 @@ use native.Mathlib.Omega.{arith}
 use lib.IntN.{ℤ, pos, negℤ, natAbs, _-ℤ_, _*ℤ_}
 use lib.Signed.{_≤ℤ_}
 use Rattle.whole.specs.Round.{roundDiv, scale}
-use Rattle.whole.proofs.Rounding.{round-neg, round-mono, round-within, round-farthest, round-only, nearest-only}
+use Rattle.whole.proofs.Rounding.{round-neg, round-mono, round-within, round-farthest, round-only, round-determined, nearest-only}
 
 -- ---- 'All roundings go to the nearest whole number, halves away from zero'
 -- the answer is within half of n / d
@@ -17,9 +17,13 @@ nearest-to n h = round-within n h
 pub no-other : (n q : ℤ) {d : ℕ} → 0 < d → 2 * natAbs (q *ℤ pos d -ℤ n) < d → roundDiv n d ≡ q
 no-other n q h k = round-only n h q k
 
--- of two that are equally near, the answer is the one farther from zero
+-- of those within half, which are two at a half, the answer is the one farther from zero
 pub farther : (n q : ℤ) {d : ℕ} → 0 < d → 2 * natAbs (q *ℤ pos d -ℤ n) ≤ d → natAbs q ≤ natAbs (roundDiv n d)
 farther n q h k = round-farthest n h q k
+
+-- and the rule leaves one answer: whatever is within half, and farthest from zero there, is it
+pub determined : (n q : ℤ) {d : ℕ} → 0 < d → 2 * natAbs (q *ℤ pos d -ℤ n) ≤ d → ((r : ℤ) → 2 * natAbs (r *ℤ pos d -ℤ n) ≤ d → natAbs r ≤ natAbs q) → roundDiv n d ≡ q
+determined n q h k far = round-determined n h q k far
 
 -- so n / d = k + 1 / 2 gives k + 1, and its negative gives -(k + 1)
 pub half-away : (n k : ℕ) {d : ℕ} → 0 < d → 2 * n ≡ (2 * k + 1) * d → (roundDiv (pos n) d ≡ pos (k + 1)) × (roundDiv (negℤ (pos n)) d ≡ negℤ (pos (k + 1)))

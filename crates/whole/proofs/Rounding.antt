@@ -3,7 +3,7 @@
 use mathlib.Core.Path.{_≡_, refl, sym, ap, _∙_, subst}
 use mathlib.Core.Bool.{Bool, true, false}
 use Prim.Native.Nat.{ℕ, zero, suc, _+_, _-_, _*_, _/_, _%_, _<_, _≤_, suc-le-suc}
-use native.Mathlib.Nat.{mul-comm, mul-le-mul-left, lt-of-mul-lt-mul-left, lt-of-mul-lt-mul-right, le-div-iff-mul-le, div-add-mod, mod-lt, div-eq-of-lt, div-eq-of-lt-le}
+use native.Mathlib.Nat.{le-antisymm, mul-comm, mul-le-mul-left, lt-of-mul-lt-mul-left, lt-of-mul-lt-mul-right, le-div-iff-mul-le, div-add-mod, mod-lt, div-eq-of-lt, div-eq-of-lt-le}
 use native.Mathlib.Omega.{arith}
 use lib.Dec.{T, leb, leb→le, le→leb}
 use borrow.Author.Tests.{leb-true, leb-false}
@@ -11,7 +11,7 @@ use lib.IntN.{ℤ, pos, negsuc, negℤ, natAbs, _+ℤ_, _-ℤ_, _*ℤ_, negℤ-n
 use lib.Signed.{mag, quotZ, remZ, nonNeg, ltZ, leZ, _≤ℤ_, leZ-yes}
 use Rattle.whole.specs.Round.{nearest, roundDiv}
 use Rattle.whole.proofs.Ring.{by-diff, pos-diff, diff-cong, ring₀, pos-sub, -ℤ-negℤ, negℤ-*ℤ}
-use Rattle.whole.proofs.Sizes.{abs-neg, abs-sub, abs-+, abs--, abs-*, abs-round, abs-zero}
+use Rattle.whole.proofs.Sizes.{abs-neg, abs-sub, abs-+, abs--, abs-*, abs-round, abs-zero, same-size}
 use Rattle.whole.proofs.Signs.{signed, by-sign, signed-+, signed-*-pos, signed-quot, signed-rem, signed-round, signed-mag, below-zero, from-zero}
 
 -- ---- two naturals
@@ -144,24 +144,31 @@ module _ (n : ℤ) {d : ℕ} (h : 0 < d) where
       size : natAbs q * d ≤ natAbs (q *ℤ pos d -ℤ n) + natAbs n
       size = omega (arith, abs-* q (pos d), ap natAbs (-ℤ-+ℤ-cancel (q *ℤ pos d) n), abs-+ (q *ℤ pos d -ℤ n) n)
 
+  -- how far another number can be
+  apart : (q : ℤ) → natAbs (roundDiv n d -ℤ q) * d ≤ natAbs (roundDiv n d *ℤ pos d -ℤ n) + natAbs (q *ℤ pos d -ℤ n)
+  apart q =
+      omega (
+        arith,
+        abs-* (roundDiv n d -ℤ q) (pos d),
+        ap natAbs (regroup (roundDiv n d)),
+        abs-- (roundDiv n d *ℤ pos d -ℤ n) (q *ℤ pos d -ℤ n),
+      )
+    where
+      regroup : (r : ℤ) → r *ℤ pos d -ℤ n -ℤ (q *ℤ pos d -ℤ n) ≡ (r -ℤ q) *ℤ pos d
+      regroup r = rw (by-diff r, by-diff q, by-diff n, pos-diff d) (simp ring₀ (diff-cong _ _ _ _ (omega arith)))
+
   -- what is nearer than half is the rounded quotient
   pub round-only : (q : ℤ) → 2 * natAbs (q *ℤ pos d -ℤ n) < d → roundDiv n d ≡ q
-  round-only q k = abs-zero (roundDiv n d) q (none (lt-of-mul-lt-mul-right d (omega (arith, apart, round-within))))
+  round-only q k = abs-zero (roundDiv n d) q (none (lt-of-mul-lt-mul-right d (omega (arith, apart q, round-within))))
     where
-      regroup : (r q : ℤ) → r *ℤ pos d -ℤ n -ℤ (q *ℤ pos d -ℤ n) ≡ (r -ℤ q) *ℤ pos d
-      regroup r q = rw (by-diff r, by-diff q, by-diff n, pos-diff d) (simp ring₀ (diff-cong _ _ _ _ (omega arith)))
-
-      apart : natAbs (roundDiv n d -ℤ q) * d ≤ natAbs (roundDiv n d *ℤ pos d -ℤ n) + natAbs (q *ℤ pos d -ℤ n)
-      apart =
-          omega (
-            arith,
-            abs-* (roundDiv n d -ℤ q) (pos d),
-            ap natAbs (regroup (roundDiv n d) q),
-            abs-- (roundDiv n d *ℤ pos d -ℤ n) (q *ℤ pos d -ℤ n),
-          )
-
       none : natAbs (roundDiv n d -ℤ q) < 1 → natAbs (roundDiv n d -ℤ q) ≡ 0
       none l = omega arith
+
+  -- so is what is within half, if nothing within half is farther from zero
+  pub round-determined : (q : ℤ) → 2 * natAbs (q *ℤ pos d -ℤ n) ≤ d → ((r : ℤ) → 2 * natAbs (r *ℤ pos d -ℤ n) ≤ d → natAbs r ≤ natAbs q) → roundDiv n d ≡ q
+  round-determined q k far =
+      same-size (roundDiv n d) q (le-antisymm (far (roundDiv n d) round-within) (round-farthest q k))
+      (at-most (lt-of-mul-lt-mul-right d (omega (arith, apart q, round-within))))
 
 pub mag-round : (n : ℤ) {d : ℕ} → 0 < d → mag (roundDiv n d) ≤ mag n
 mag-round n {d} h =

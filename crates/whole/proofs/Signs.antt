@@ -25,10 +25,9 @@ pub by-sign : (x : ℤ) → x ≡ signed (nonNeg x) (natAbs x)
 by-sign (pos n) = refl
 by-sign (negsuc n) = refl
 
--- both signs of a zero
-zero-signed : (s : Bool) {m n : ℕ} → m ≡ 0 → n ≡ 0 → pos m ≡ signed s n
-zero-signed true p q = ap pos (p ∙ sym q)
-zero-signed false p q = ap pos p ∙ ap (λ (n : ℕ). negℤ (pos n)) (sym q)
+-- zero has no sign
+zero-signed : {n : ℕ} → n ≡ 0 → pos n ≡ signed false n
+zero-signed e = ap pos e ∙ ap (signed false) (sym e)
 
 pub signed-+ : (s : Bool) (a b : ℕ) → signed s a +ℤ signed s b ≡ signed s (a + b)
 signed-+ true a b = refl
@@ -41,13 +40,13 @@ signed-+ false (suc a) (suc b) = ap (signed false) (more a b)
 
 pub signed-* : (s t : Bool) (a b : ℕ) → signed s a *ℤ signed t b ≡ signed (alike s t) (a * b)
 signed-* true true a b = refl
-signed-* true false a zero = zero-signed false (mul-zero a) (mul-zero a)
+signed-* true false a zero = zero-signed (mul-zero a)
 signed-* true false a (suc b) = refl
-signed-* false true zero b = zero-signed false (zero-mul b) (zero-mul b)
+signed-* false true zero b = zero-signed (zero-mul b)
 signed-* false true (suc a) b = refl
 signed-* false false zero zero = refl
-signed-* false false zero (suc b) = sym (zero-signed false (zero-mul (suc b)) (zero-mul (suc b)))
-signed-* false false (suc a) zero = sym (zero-signed false (mul-zero (suc a)) (mul-zero (suc a)))
+signed-* false false zero (suc b) = sym (zero-signed (zero-mul (suc b)))
+signed-* false false (suc a) zero = sym (zero-signed (mul-zero (suc a)))
 signed-* false false (suc a) (suc b) = refl
 
 pub signed-*-pos : (s : Bool) (a b : ℕ) → signed s a *ℤ pos b ≡ signed s (a * b)
@@ -56,12 +55,12 @@ signed-*-pos false a b = signed-* false true a b
 
 pub signed-quot : (s : Bool) (a k : ℕ) → quotZ (signed s a) (pos k) ≡ signed s (a / k)
 signed-quot true a k = refl
-signed-quot false zero k = zero-signed false (zero-div k) (zero-div k)
+signed-quot false zero k = zero-signed (zero-div k)
 signed-quot false (suc a) k = refl
 
 pub signed-rem : (s : Bool) (a k : ℕ) → remZ (signed s a) (pos k) ≡ signed s (a % k)
 signed-rem true a k = refl
-signed-rem false zero k = zero-signed false (zero-mod k) (zero-mod k)
+signed-rem false zero k = zero-signed (zero-mod k)
 signed-rem false (suc a) k = refl
 
 -- what a division leaves
@@ -85,7 +84,7 @@ nearest-zero (suc d) = div-eq-of-lt (less d)
 pub signed-round : (s : Bool) (a d : ℕ) → roundDiv (signed s a) d ≡ signed s (nearest a d)
 unfolding roundDiv
 signed-round true a d = refl
-signed-round false zero d = zero-signed false (nearest-zero d) (nearest-zero d)
+signed-round false zero d = zero-signed (nearest-zero d)
 signed-round false (suc a) d = refl
 
 -- of two of one sign, the smaller is held where the larger is

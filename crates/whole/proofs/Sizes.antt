@@ -40,6 +40,14 @@ abs-zero x y h = sym (-ℤ-+ℤ-cancel x y) ∙ ap (λ (z : ℤ). z +ℤ y) (non
     none (pos n) e = ap pos e
     none (negsuc n) e = absurd (omega arith)
 
+-- two of one size are equal, or at least two apart
+pub same-size : (x y : ℤ) → natAbs x ≡ natAbs y → natAbs (x -ℤ y) ≤ 1 → x ≡ y
+same-size (pos a) (pos b) e h = ap pos e
+same-size (pos a) (negsuc b) e h = absurd (omega arith)
+same-size (negsuc a) (pos zero) e h = absurd (omega arith)
+same-size (negsuc a) (pos (suc b)) e h = absurd (omega arith)
+same-size (negsuc a) (negsuc b) e h = ap negsuc (omega arith)
+
 -- ---- products
 pub abs-* : (x y : ℤ) → natAbs (x *ℤ y) ≡ natAbs x * natAbs y
 abs-* (pos a) (pos b) = refl

@@ -1,0 +1,65 @@
+#!/usr/bin/env python3
+"""Each must-fail edit of a source is a wrong program: built with it and run with no proof, the test program does not print
+what it must, or a run that checks the machine's rules stops.
+
+This is what a refusal alone does not show, since the prover also refuses a right program that the proof was not written
+for. An edit of the definitions alone has no program, and is left to tests/must_fail.py.
+"""
+import glob
+import os
+import shutil
+import subprocess
+import sys
+import tempfile
+
+PROGRAM = 'pages'
+
+
+def tried(edit):
+    """What `rt try` says of the test program in a copy of the sources with this edit: its status and its words."""
+    room = tempfile.mkdtemp()
+    try:
+        shutil.copy('crates.txt', room)
+        shutil.copytree('crates', os.path.join(room, 'crates'))
+        if edit:
+            apply(edit, room)
+        run = subprocess.run(['rt', 'try', PROGRAM], cwd=room, capture_output=True, text=True)
+        return run.returncode, run.stdout + run.stderr
+    finally:
+        shutil.rmtree(room)
+
+
+def apply(edit, room):
+    place = old = None
+    with open(edit, encoding='utf-8') as f:
+        lines = f.read().split('\n')
+    for line in lines:
+        if line.startswith('file: '):
+            place = os.path.join(room, 'crates', edit.split('/')[1], line[len('file: '):])
+        elif line.startswith('old: '):
+            old = line[len('old: '):]
+        elif line.startswith('new: '):
+            with open(place, encoding='utf-8') as f:
+                text = f.read()
+            with open(place, 'w', encoding='utf-8') as f:
+                f.write(text.replace(old, line[len('new: '):]))
+
+
+def of_source(edit):
+    with open(edit, encoding='utf-8') as f:
+        return 'file: src/' in f.read()
+
+
+wrong = []
+status, said = tried(None)
+if status != 0:
+    wrong.append(f'{PROGRAM}, unedited, ends with {status}: {said[:200]}')
+edits = [e for e in sorted(glob.glob('crates/*/must-fail/*.edit')) if of_source(e)]
+for edit in edits:
+    status, said = tried(edit)
+    if status == 0:
+        wrong.append(f'{edit}: {PROGRAM} prints what it must all the same')
+    elif 'FAIL: ' not in said:
+        wrong.append(f'{edit}: it was not run: {said[:200]}')
+print('\n'.join(wrong) or f'wrong programs: {len(edits)} edits, each seen to go wrong in {PROGRAM}')
+sys.exit(1 if wrong or not edits else 0)
