@@ -13,6 +13,8 @@ pub mod Products
 pub mod Words
 -- a signed word divided, and rounded
 pub mod Divided
+-- tests joined by `&&`
+pub mod Bools
 -- a test computed for every number below n
 pub mod Below
 -- what document 01 asks of every rounding

@@ -1,0 +1,34 @@
+-- Document 01, 'Refusal numbers': what a call answers, and what it leaves in a lent buffer.
+use mathlib.Core.List.{List, _++_}
+use Prim.Native.Nat.{ℕ}
+use lib.ListN.{length, drop}
+use Rattle.kinds.specs.declared.Refusal.{Refusal}
+use Rattle.kinds.specs.declared.Refusal.the-variants.{Length, Kind, Range, Code, Family, Area, Room, Foreign, Sheet}
+
+-- a value, or the number of the refusal
+pub data Answer (A : Type 0) : Type 0 where
+  gives : A → Answer A
+  refused : ℕ → Answer A
+
+-- the number of each refusal
+abbrev pub numberOf : Refusal → ℕ
+numberOf Length = 1
+numberOf Kind = 2
+numberOf Range = 3
+numberOf Code = 4
+numberOf Family = 5
+numberOf Area = 6
+numberOf Room = 7
+numberOf Foreign = 8
+numberOf Sheet = 9
+
+-- ---- a call that writes: its bytes, or the number of the refusal
+-- how many bytes it says that it wrote
+abbrev pub counted : Answer (List ℕ) → Answer ℕ
+counted (gives bytes) = gives (length bytes)
+counted (refused n) = refused n
+
+-- the lent buffer afterwards: the bytes at its start and the rest as it came; after a refusal, all of it as it came
+abbrev pub lent : Answer (List ℕ) → List ℕ → List ℕ
+lent (gives bytes) out = bytes ++ drop (length bytes) out
+lent (refused n) out = out

@@ -1,0 +1,272 @@
+// The kinds of quantity: latitude and longitude on the local datum and on WGS 84, the shift of an angle, and height; and why
+// a call is refused. Outside this crate a kind is made by its constructor, which tests a raw number, and read by a method, so
+// code that takes one kind for another, or a bare number for a kind, does not build.
+ghost use mathlib.Core.Path.{_≡_};
+ghost use Rattle.kinds.specs.Answer.{numberOf};
+ghost use Rattle.kinds.specs.Cases.{localLatitude, localLongitude, wgs84Latitude, wgs84Longitude, angleShift, height};
+ghost use Rattle.kinds.specs.Kinds.{within, isLatitude, isLongitude, isWgs84Latitude, isWgs84Longitude, isFourBytes, tested, converted};
+
+// Why a call is refused, in the order of document 01's numbers.
+pub enum Refusal {
+    // a text, line or sheet has the wrong length
+    Length,
+    // a byte of a text or line is not of its kind
+    Kind,
+    // a latitude, longitude, minute or second is out of range
+    Range,
+    // the code is not 1 to 6
+    Code,
+    // a shift is asked of code 5 or 6, or a geoid height of code 1 to 4
+    Family,
+    // the point is outside its datum's area
+    Area,
+    // the lent buffer is too short
+    Room,
+    // the sheet's serial is not zero and not the unit's
+    Foreign,
+    // the sheet's serial is zero, a count is over its limit, or its codes are wrong
+    Sheet,
+}
+
+impl Refusal {
+    pub fn number(self) -> u8
+        ensures { λ r. ⌜ r ≡ numberOf self ⌝ }
+    {
+        match self {
+            Refusal::Length => 1,
+            Refusal::Kind => 2,
+            Refusal::Range => 3,
+            Refusal::Code => 4,
+            Refusal::Family => 5,
+            Refusal::Area => 6,
+            Refusal::Room => 7,
+            Refusal::Foreign => 8,
+            Refusal::Sheet => 9,
+        }
+    }
+}
+
+// How many bytes a call wrote to the start of a lent buffer.
+pub enum WrittenAnswer {
+    Gives(usize),
+    Refused(Refusal),
+}
+
+// Latitude on the local datum, in ms (thousandths of an arc second), north positive.
+pub struct LocalLatitude(i32);
+
+pub enum LocalLatitudeAnswer {
+    Gives(LocalLatitude),
+    Refused(Refusal),
+}
+
+impl LocalLatitude {
+    // ms in a second, a minute and a degree
+    pub const SECOND: i64 = 1_000;
+
+    pub const MINUTE: i64 = 60 * LocalLatitude::SECOND;
+
+    pub const DEGREE: i64 = 60 * LocalLatitude::MINUTE;
+
+    // at the north pole
+    pub const LARGEST: i64 = 90 * LocalLatitude::DEGREE;
+
+    pub fn new(ms: i64) -> LocalLatitudeAnswer
+        ensures { λ r. ⌜ localLatitude r ≡ tested (isLatitude ms) ms ⌝ }
+    {
+        if within(ms, -LocalLatitude::LARGEST, LocalLatitude::LARGEST) {
+            LocalLatitudeAnswer::Gives(LocalLatitude(ms as i32))
+        } else {
+            LocalLatitudeAnswer::Refused(Refusal::Range)
+        }
+    }
+
+    pub fn ms(self) -> i32
+        ensures { λ r. ⌜ r ≡ self .0 ⌝ }
+    {
+        self.0
+    }
+
+    // Where a shift leads. Past a pole, or the turn of a longitude, nothing is wrapped.
+    pub fn shifted(self, by: AngleShift) -> Wgs84Latitude
+        ensures { λ r. ⌜ r .0 ≡ converted (self .0) (by .0) ⌝ }
+    {
+        Wgs84Latitude(converted(self.0, by.0))
+    }
+}
+
+// Longitude on the local datum, in ms, east positive, from 0 up to a turn.
+pub struct LocalLongitude(i32);
+
+pub enum LocalLongitudeAnswer {
+    Gives(LocalLongitude),
+    Refused(Refusal),
+}
+
+impl LocalLongitude {
+    // 360°, which is written 0
+    pub const TURN: i64 = 360 * LocalLatitude::DEGREE;
+
+    pub fn new(ms: i64) -> LocalLongitudeAnswer
+        ensures { λ r. ⌜ localLongitude r ≡ tested (isLongitude ms) ms ⌝ }
+    {
+        if within(ms, 0, LocalLongitude::TURN - 1) {
+            LocalLongitudeAnswer::Gives(LocalLongitude(ms as i32))
+        } else {
+            LocalLongitudeAnswer::Refused(Refusal::Range)
+        }
+    }
+
+    pub fn ms(self) -> i32
+        ensures { λ r. ⌜ r ≡ self .0 ⌝ }
+    {
+        self.0
+    }
+
+    pub fn shifted(self, by: AngleShift) -> Wgs84Longitude
+        ensures { λ r. ⌜ r .0 ≡ converted (self .0) (by .0) ⌝ }
+    {
+        Wgs84Longitude(converted(self.0, by.0))
+    }
+}
+
+// The shift of an angle from the local datum to WGS 84, in 0.00001".
+pub struct AngleShift(i32);
+
+pub enum AngleShiftAnswer {
+    Gives(AngleShift),
+    Refused(Refusal),
+}
+
+impl AngleShift {
+    // units in a ms
+    pub const PER_MS: i64 = 100;
+
+    // units in a second
+    pub const PER_SECOND: f64 = 100_000.0;
+
+    // what a signed 4-byte number holds
+    pub const LEAST: i64 = -2_147_483_648;
+
+    pub const LARGEST: i64 = 2_147_483_647;
+
+    pub fn new(units: i64) -> AngleShiftAnswer
+        ensures { λ r. ⌜ angleShift r ≡ tested (isFourBytes units) units ⌝ }
+    {
+        if within(units, AngleShift::LEAST, AngleShift::LARGEST) {
+            AngleShiftAnswer::Gives(AngleShift(units as i32))
+        } else {
+            AngleShiftAnswer::Refused(Refusal::Range)
+        }
+    }
+
+    pub fn units(self) -> i32
+        ensures { λ r. ⌜ r ≡ self .0 ⌝ }
+    {
+        self.0
+    }
+}
+
+// A height or its shift, in mm.
+pub struct Height(i32);
+
+pub enum HeightAnswer {
+    Gives(Height),
+    Refused(Refusal),
+}
+
+impl Height {
+    // mm in a metre
+    pub const PER_METRE: f64 = 1_000.0;
+
+    // what a signed 4-byte number holds
+    pub const LEAST: i64 = -2_147_483_648;
+
+    pub const LARGEST: i64 = 2_147_483_647;
+
+    pub fn new(mm: i64) -> HeightAnswer
+        ensures { λ r. ⌜ height r ≡ tested (isFourBytes mm) mm ⌝ }
+    {
+        if within(mm, Height::LEAST, Height::LARGEST) {
+            HeightAnswer::Gives(Height(mm as i32))
+        } else {
+            HeightAnswer::Refused(Refusal::Range)
+        }
+    }
+
+    pub fn mm(self) -> i32
+        ensures { λ r. ⌜ r ≡ self .0 ⌝ }
+    {
+        self.0
+    }
+}
+
+// Latitude on WGS 84, in 0.00001", north positive.
+pub struct Wgs84Latitude(i64);
+
+pub enum Wgs84LatitudeAnswer {
+    Gives(Wgs84Latitude),
+    Refused(Refusal),
+}
+
+impl Wgs84Latitude {
+    pub const LARGEST: i64 = AngleShift::PER_MS * LocalLatitude::LARGEST;
+
+    pub fn new(units: i64) -> Wgs84LatitudeAnswer
+        ensures { λ r. ⌜ wgs84Latitude r ≡ tested (isWgs84Latitude units) units ⌝ }
+    {
+        if within(units, -Wgs84Latitude::LARGEST, Wgs84Latitude::LARGEST) {
+            Wgs84LatitudeAnswer::Gives(Wgs84Latitude(units))
+        } else {
+            Wgs84LatitudeAnswer::Refused(Refusal::Range)
+        }
+    }
+
+    pub fn units(self) -> i64
+        ensures { λ r. ⌜ r ≡ self .0 ⌝ }
+    {
+        self.0
+    }
+}
+
+// Longitude on WGS 84, in 0.00001", east positive, from 0 up to a turn.
+pub struct Wgs84Longitude(i64);
+
+pub enum Wgs84LongitudeAnswer {
+    Gives(Wgs84Longitude),
+    Refused(Refusal),
+}
+
+impl Wgs84Longitude {
+    pub const TURN: i64 = AngleShift::PER_MS * LocalLongitude::TURN;
+
+    pub fn new(units: i64) -> Wgs84LongitudeAnswer
+        ensures { λ r. ⌜ wgs84Longitude r ≡ tested (isWgs84Longitude units) units ⌝ }
+    {
+        if within(units, 0, Wgs84Longitude::TURN - 1) {
+            Wgs84LongitudeAnswer::Gives(Wgs84Longitude(units))
+        } else {
+            Wgs84LongitudeAnswer::Refused(Refusal::Range)
+        }
+    }
+
+    pub fn units(self) -> i64
+        ensures { λ r. ⌜ r ≡ self .0 ⌝ }
+    {
+        self.0
+    }
+}
+
+// Whether x is in range, both ends in.
+fn within(x: i64, least: i64, largest: i64) -> bool
+    ensures { λ r. ⌜ r ≡ within least largest x ⌝ }
+{
+    (least <= x) & (x <= largest)
+}
+
+// In 0.00001", of ms and a shift.
+fn converted(ms: i32, shift: i32) -> i64
+    ensures { λ r. ⌜ r ≡ converted ms shift ⌝ }
+{
+    AngleShift::PER_MS * ms as i64 + shift as i64
+}

@@ -1,0 +1,12 @@
+-- Tests joined by `&&`. Assumes nothing.
+use mathlib.Core.Path.{_≡_, refl}
+use mathlib.Core.Bool.{Bool, true, false, _&&_, false≢true}
+
+-- what holds of both holds of each
+pub both : (a b : Bool) → (a && b) ≡ true → (a ≡ true) × (b ≡ true)
+both true b h = (refl, h)
+both false b h = absurd (false≢true h)
+
+-- and what holds of each holds of both
+pub joined : {a b : Bool} → a ≡ true → b ≡ true → (a && b) ≡ true
+joined h k = λ i. h i && k i
