@@ -1,4 +1,5 @@
 -- Document 01, 'Refusal numbers': what a call answers, and what it leaves in a lent buffer.
+use mathlib.Core.Bool.{Bool, true, false}
 use mathlib.Core.List.{List, _++_}
 use Prim.Native.Nat.{ℕ}
 use lib.ListN.{length, drop}
@@ -9,6 +10,11 @@ use Rattle.kinds.specs.declared.Refusal.the-variants.{Length, Kind, Rang
 pub data Answer (A : Type 0) : Type 0 where
   gives : A → Answer A
   refused : ℕ → Answer A
+
+-- the answer where the test holds, and the refusal n where it does not
+abbrev pub demand : {A : Type 0} → Bool → ℕ → Answer A → Answer A
+demand true n a = a
+demand false n a = refused n
 
 -- the number of each refusal
 abbrev pub numberOf : Refusal → ℕ

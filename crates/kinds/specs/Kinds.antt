@@ -3,7 +3,7 @@ use mathlib.Core.Bool.{Bool, true, false, _&&_}
 use Prim.Native.Nat.{ℕ}
 use lib.IntN.{ℤ, pos, negℤ, _+ℤ_, _*ℤ_}
 use lib.Signed.{leZ}
-use Rattle.kinds.specs.Answer.{Answer, gives, refused}
+use Rattle.kinds.specs.Answer.{Answer, gives, demand}
 
 -- from the least to the largest, both in
 abbrev pub within : ℤ → ℤ → ℤ → Bool
@@ -30,8 +30,7 @@ isFourBytes x = within (negℤ (pos 2147483648)) (pos 2147483647) x
 
 -- a raw number, tested: itself, or 3
 abbrev pub tested : Bool → ℤ → Answer ℤ
-tested true x = gives x
-tested false x = refused 3
+tested inside x = demand inside 3 (gives x)
 
 -- the WGS 84 position, in 0.00001", of a local one in ms by its shift
 abbrev pub converted : ℤ → ℤ → ℤ

@@ -1,0 +1,66 @@
+-- A text by its bytes, as the code reads them; and a longitude's text as a digit and a text of a latitude's form.
+-- Assumes nothing.
+use mathlib.Core.Path.{_≡_, refl, sym, ap, _∙_, subst}
+use mathlib.Core.Bool.{Bool, true, false, _&&_, and-assoc, and-true}
+use mathlib.Core.List.{List, [], _∷_, _++_}
+use Prim.Native.Nat.{ℕ, zero, suc, _+_, _-_, _*_, _/_, _%_, _<_, _≤_, _^_}
+use native.Mathlib.Numerals.{add-one}
+use native.Mathlib.Omega.{arith}
+use lib.Dec.{eqb, ltb}
+use lib.ListN.{length, getD, take, drop}
+use lib.Seq.{drop-cons, take-all, length-take-le}
+use Rattle.position.specs.Text.{Coordinate, latitude, longitude, isDigit, digitOf, allDigits, number, digits, part, isAngle, inSixties, angle, spelled}
+
+abbrev at : List ℕ → ℕ → ℕ
+at t i = getD t i 0
+
+-- ---- a part, a byte at a time
+pub part-next : (from n : ℕ) (t : List ℕ) → from < length t → part from (suc n) t ≡ at t from ∷ part (suc from) n t
+part-next from n t h = ap (take (suc n)) (drop-cons t from 0 h)
+
+pub part-two : (from : ℕ) (t : List ℕ) → from + 2 ≤ length t → part from 2 t ≡ at t from ∷ at t (from + 1) ∷ []
+part-two from t h =
+    part-next from 1 t (omega arith)
+    ∙ ap (λ (l : List ℕ). at t from ∷ l) (part-next (suc from) 0 t (omega arith) ∙ ap (λ (i : ℕ). at t i ∷ []) (sym (add-one from)))
+
+-- two digits, as the code reads them
+pub two-digits : (from : ℕ) (t : List ℕ) → from + 2 ≤ length t → allDigits (part from 2 t) ≡ (isDigit (at t from) && isDigit (at t (from + 1)))
+unfolding allDigits
+two-digits from t h = ap allDigits (part-two from t h) ∙ simp and-true
+
+pub two-number : (from : ℕ) (t : List ℕ) → from + 2 ≤ length t → number (part from 2 t) ≡ digitOf (at t from) * 10 + digitOf (at t (from + 1))
+unfolding number
+two-number from t h = ap number (part-two from t h) ∙ omega arith
+
+-- three, as a digit and two more
+pub three-digits : (from : ℕ) (t : List ℕ) → from < length t → allDigits (part from 3 t) ≡ (isDigit (at t from) && allDigits (part (suc from) 2 t))
+unfolding allDigits
+three-digits from t h = ap allDigits (part-next from 2 t h)
+
+pub three-number : (from : ℕ) (t : List ℕ) → from + 3 ≤ length t → number (part from 3 t) ≡ digitOf (at t from) * 100 + number (part (suc from) 2 t)
+unfolding number
+three-number from t h = ap number (part-next from 2 t (omega arith)) ∙ ap (λ (n : ℕ). digitOf (at t from) * 10 ^ n + number (part (suc from) 2 t)) (ap length (part-two (suc from) t (omega arith)))
+
+-- ---- a longitude's text: a digit, and a text of a latitude's form
+abbrev pub rest : List ℕ → List ℕ
+rest t = take (length t - 1) (drop 1 t)
+
+rest-is : (b : ℕ) (t : List ℕ) → rest (b ∷ t) ≡ t
+rest-is b t = take-all (length (b ∷ t) - 1) t (omega arith)
+
+pub longitude-is-angle : (t : List ℕ) → length t ≡ 12 → (isDigit (at t 0) && isAngle latitude (rest t)) ≡ isAngle longitude t
+unfolding isAngle allDigits
+longitude-is-angle [] h = absurd (omega arith)
+longitude-is-angle (b ∷ t) h = rw (rest-is b t) (simp and-assoc)
+
+pub longitude-in-sixties : (t : List ℕ) → length t ≡ 12 → inSixties latitude (rest t) ≡ inSixties longitude t
+unfolding inSixties
+longitude-in-sixties [] h = absurd (omega arith)
+longitude-in-sixties (b ∷ t) h = rw (rest-is b t)
+
+pub longitude-angle : (t : List ℕ) → length t ≡ 12 → digitOf (at t 0) * 360000000 + angle latitude (rest t) ≡ angle longitude t
+unfolding angle number
+longitude-angle [] h = absurd (omega arith)
+longitude-angle (b ∷ t) h =
+    let e : 10 ^ length (take 2 t) ≡ 100 = ap (λ (n : ℕ). 10 ^ n) (length-take-le 2 t (omega arith)) in
+    rw (rest-is b t) (simp e (omega arith))

@@ -1,0 +1,5 @@
+-- The laws, by what they are about. Another crate cites them as `Rattle.position.proofs.NAME`.
+-- a text by its bytes, and a longitude's by a digit and a text of a latitude's form
+pub mod Bytes
+-- what each return of a reading answers
+pub mod Reading

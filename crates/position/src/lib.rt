@@ -1,0 +1,184 @@
+// A position as text, read and written: `ddmmss.sssN` or `S` for a latitude, `dddmmss.sssE` for a longitude.
+// A longitude's text is a digit, for hundreds of degrees, and then a text of a latitude's form: so the work is done once.
+use kinds::LocalLatitude;
+use kinds::LocalLatitudeAnswer;
+use kinds::LocalLongitude;
+use kinds::LocalLongitudeAnswer;
+use kinds::Refusal;
+use kinds::WrittenAnswer;
+
+ghost use mathlib.Core.Path.{_≡_};
+ghost use Prim.Native.Nat.{_+_, _%_, _<_, _≤_};
+ghost use lib.ListN.{length};
+ghost use Rattle.kinds.specs.Answer.{counted, lent};
+ghost use Rattle.kinds.specs.Cases.{localLatitude, localLongitude, written};
+ghost use Rattle.position.specs.Text.{latitude, longitude, isDigit, digitOf, allDigits, number, part, isAngle, inSixties, angle, read, spelled, write};
+
+// Reads the 11 bytes `ddmmss.sssN` or `S`. Refused: 1 another length, 2 a byte that is not of its kind, 3 minutes or seconds
+// from 60 up, past 90°, or S after zero.
+pub fn read_latitude(text: &[u8]) -> LocalLatitudeAnswer
+    ensures { λ r. ⌜ localLatitude r ≡ read latitude (now (text .entry)) ⌝ }
+{
+    if text.len() != LATITUDE_BYTES {
+        return LocalLatitudeAnswer::Refused(Refusal::Length);
+    }
+    let letter = text[10];
+    if !(is_angle(text) & ((letter == b'N') | (letter == b'S'))) {
+        return LocalLatitudeAnswer::Refused(Refusal::Kind);
+    }
+    let ms = angle(text);
+    if !(in_sixties(text) & !((letter == b'S') & (ms == 0))) {
+        return LocalLatitudeAnswer::Refused(Refusal::Range);
+    }
+    if letter == b'S' {
+        return LocalLatitude::new(-(ms as i64));
+    }
+    LocalLatitude::new(ms as i64)
+}
+
+// Reads the 12 bytes `dddmmss.sssE`. Refused: 1, 2 and 3 likewise, 3 from 360° up.
+pub fn read_longitude(text: &[u8]) -> LocalLongitudeAnswer
+    ensures { λ r. ⌜ localLongitude r ≡ read longitude (now (text .entry)) ⌝ }
+{
+    if text.len() != LONGITUDE_BYTES {
+        return LocalLongitudeAnswer::Refused(Refusal::Length);
+    }
+    let hundreds = text[0];
+    let letter = text[11];
+    let rest = &text[1..];
+    if !(is_digit(hundreds) & is_angle(rest) & (letter == b'E')) {
+        return LocalLongitudeAnswer::Refused(Refusal::Kind);
+    }
+    if !in_sixties(rest) {
+        return LocalLongitudeAnswer::Refused(Refusal::Range);
+    }
+    LocalLongitude::new((digit(hundreds) * HUNDRED_DEGREES + angle(rest)) as i64)
+}
+
+// Writes a latitude in ms to the first 11 bytes of out. Refused: 3 past 90°, 7 out is shorter.
+pub fn write_latitude(ms: i64, out: &mut [u8]) -> WrittenAnswer
+    ensures { λ r. ⌜ written r ≡ counted (write latitude ms (length (now (out .entry)))) ⌝ }
+    ensures { λ r. ⌜ now (out .exit) ≡ lent (write latitude ms (length (now (out .entry)))) (now (out .entry)) ⌝ }
+{
+    if let LocalLatitudeAnswer::Refused(why) = LocalLatitude::new(ms) {
+        return WrittenAnswer::Refused(why);
+    }
+    if out.len() < LATITUDE_BYTES {
+        return WrittenAnswer::Refused(Refusal::Room);
+    }
+    let mut letter = b'N';
+    if ms < 0 {
+        letter = b'S';
+    }
+    let line = spelled(whole::size(ms), letter);
+    bytes::copy(&line[1..], out);
+    WrittenAnswer::Gives(LATITUDE_BYTES)
+}
+
+// Writes a longitude in ms to the first 12 bytes of out. Refused: 3 below 0 or from 360° up, 7 out is shorter.
+pub fn write_longitude(ms: i64, out: &mut [u8]) -> WrittenAnswer
+    ensures { λ r. ⌜ written r ≡ counted (write longitude ms (length (now (out .entry)))) ⌝ }
+    ensures { λ r. ⌜ now (out .exit) ≡ lent (write longitude ms (length (now (out .entry)))) (now (out .entry)) ⌝ }
+{
+    if let LocalLongitudeAnswer::Refused(why) = LocalLongitude::new(ms) {
+        return WrittenAnswer::Refused(why);
+    }
+    if out.len() < LONGITUDE_BYTES {
+        return WrittenAnswer::Refused(Refusal::Room);
+    }
+    let line = spelled(whole::size(ms), b'E');
+    bytes::copy(&line, out);
+    WrittenAnswer::Gives(LONGITUDE_BYTES)
+}
+
+const LATITUDE_BYTES: usize = 11;
+
+const LONGITUDE_BYTES: usize = 12;
+
+const HUNDRED_DEGREES: u64 = 360_000_000;
+
+fn is_digit(b: u8) -> bool
+    ensures { λ r. ⌜ r ≡ isDigit b ⌝ }
+{
+    (b'0' <= b) & (b <= b'9')
+}
+
+// What a digit says; 0 of a byte below them.
+fn digit(b: u8) -> u64
+    ensures { λ r. ⌜ r ≡ digitOf b ⌝ }
+    ensures { λ r. ⌜ r < 208 ⌝ }
+{
+    if b < b'0' { 0 } else { (b - b'0') as u64 }
+}
+
+// Two digits at a place of t: whether they are, and what they say.
+fn is_pair(t: &[u8], at: usize) -> bool
+    requires { ⌜ at + 2 ≤ length (now t) ⌝ }
+    ensures { λ r. ⌜ r ≡ allDigits (part at 2 (now (t .entry))) ⌝ }
+{
+    is_digit(t[at]) & is_digit(t[at + 1])
+}
+
+fn pair(t: &[u8], at: usize) -> u64
+    requires { ⌜ at + 2 ≤ length (now t) ⌝ }
+    ensures { λ r. ⌜ r ≡ number (part at 2 (now (t .entry))) ⌝ }
+    ensures { λ r. ⌜ r < 2288 ⌝ }
+{
+    digit(t[at]) * 10 + digit(t[at + 1])
+}
+
+// Of the 11 bytes of a latitude's form: those before the letter are digits and a point.
+fn is_angle(t: &[u8]) -> bool
+    requires { ⌜ length (now t) ≡ 11 ⌝ }
+    ensures { λ r. ⌜ r ≡ isAngle latitude (now (t .entry)) ⌝ }
+{
+    is_pair(t, 0) & is_pair(t, 2) & is_pair(t, 4) & (t[6] == b'.') & (is_digit(t[7]) & is_pair(t, 8))
+}
+
+// Minutes and seconds are below 60.
+fn in_sixties(t: &[u8]) -> bool
+    requires { ⌜ length (now t) ≡ 11 ⌝ }
+    ensures { λ r. ⌜ r ≡ inSixties latitude (now (t .entry)) ⌝ }
+{
+    (pair(t, 2) < 60) & (pair(t, 4) < 60)
+}
+
+// The ms that they say.
+fn angle(t: &[u8]) -> u64
+    requires { ⌜ length (now t) ≡ 11 ⌝ }
+    ensures { λ r. ⌜ r ≡ angle latitude (now (t .entry)) ⌝ }
+    ensures { λ r. ⌜ r < 9_000_000_000 ⌝ }
+{
+    pair(t, 0) * 3_600_000 + pair(t, 2) * 60_000 + pair(t, 4) * 1_000 + (digit(t[7]) * 100 + pair(t, 8))
+}
+
+// The last digit of n, as a byte.
+fn last_digit(n: u64) -> u8
+    ensures { λ r. ⌜ r ≡ 48 + n % 10 ⌝ }
+{
+    (n % 10) as u8 + b'0'
+}
+
+// ms as `dddmmss.sss`, and the letter. A latitude's text is this without its first digit.
+fn spelled(ms: u64, letter: u8) -> [u8; 12]
+    ensures { λ r. ⌜ r ≡ spelled longitude ms letter ⌝ }
+{
+    let thousandths = ms % 1_000;
+    let seconds = ms / 1_000 % 60;
+    let minutes = ms / 1_000 / 60 % 60;
+    let degrees = ms / 1_000 / 60 / 60;
+    [
+        last_digit(degrees / 100),
+        last_digit(degrees / 10),
+        last_digit(degrees),
+        last_digit(minutes / 10),
+        last_digit(minutes),
+        last_digit(seconds / 10),
+        last_digit(seconds),
+        b'.',
+        last_digit(thousandths / 100),
+        last_digit(thousandths / 10),
+        last_digit(thousandths),
+        letter,
+    ]
+}
