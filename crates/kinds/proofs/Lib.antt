@@ -1,4 +1,6 @@
 -- The laws, by what they are about. Another crate cites them as `Rattle.kinds.proofs.NAME`.
+-- what an answer says of the tests before it
+pub mod Answers
 -- a raw number that was tested by `within`
 pub mod Tested
 -- a local position converted by its shift

@@ -2,6 +2,7 @@
 use mathlib.Core.Bool.{Bool, true, false}
 use mathlib.Core.List.{List, _++_}
 use Prim.Native.Nat.{ℕ}
+use lib.Dec.{leb}
 use lib.ListN.{length, drop}
 use Rattle.kinds.specs.declared.Refusal.{Refusal}
 use Rattle.kinds.specs.declared.Refusal.the-variants.{Length, Kind, Range, Code, Family, Area, Room, Foreign, Sheet}
@@ -29,6 +30,10 @@ numberOf Foreign = 8
 numberOf Sheet = 9
 
 -- ---- a call that writes: its bytes, or the number of the refusal
+-- the bytes, for a lent buffer that has room for so many: 7 where it is too short
+abbrev pub placed : List ℕ → ℕ → Answer (List ℕ)
+placed bytes room = demand (leb (length bytes) room) 7 (gives bytes)
+
 -- how many bytes it says that it wrote
 abbrev pub counted : Answer (List ℕ) → Answer ℕ
 counted (gives bytes) = gives (length bytes)

@@ -3,3 +3,5 @@
 pub mod Bytes
 -- what each return of a reading answers
 pub mod Reading
+-- what each return of a writing answers, and leaves in the lent buffer
+pub mod Writing

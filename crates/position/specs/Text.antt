@@ -6,7 +6,7 @@ use Prim.Native.Nat.{ℕ, zero, suc, _+_, _-_, _*_, _/_, _%_, _^_}
 use lib.Dec.{eqb, leb, ltb}
 use lib.IntN.{ℤ, pos, negsuc, negℤ, natAbs}
 use lib.ListN.{length, getD, take, drop}
-use Rattle.kinds.specs.Answer.{Answer, gives, demand}
+use Rattle.kinds.specs.Answer.{Answer, gives, demand, placed}
 use Rattle.kinds.specs.Kinds.{isLatitude, isLongitude}
 
 pub data Coordinate : Type 0 where
@@ -119,4 +119,4 @@ text k x = spelled k (natAbs x) (letterOf k x)
 
 -- to a lent buffer with room for so many bytes
 unfoldable pub write : Coordinate → ℤ → ℕ → Answer (List ℕ)
-write k x room = demand (inRange k x) 3 (demand (leb (size k) room) 7 (gives (text k x)))
+write k x room = demand (inRange k x) 3 (placed (text k x) room)

@@ -10,7 +10,7 @@ use kinds::WrittenAnswer;
 ghost use mathlib.Core.Path.{_≡_};
 ghost use Prim.Native.Nat.{_+_, _%_, _<_, _≤_};
 ghost use lib.ListN.{length};
-ghost use Rattle.kinds.specs.Answer.{counted, lent};
+ghost use Rattle.kinds.specs.Answer.{placed, counted, lent};
 ghost use Rattle.kinds.specs.Cases.{localLatitude, localLongitude, written};
 ghost use Rattle.position.specs.Text.{latitude, longitude, isDigit, digitOf, allDigits, number, part, isAngle, inSixties, angle, read, spelled, write};
 
@@ -63,16 +63,12 @@ pub fn write_latitude(ms: i64, out: &mut [u8]) -> WrittenAnswer
     if let LocalLatitudeAnswer::Refused(why) = LocalLatitude::new(ms) {
         return WrittenAnswer::Refused(why);
     }
-    if out.len() < LATITUDE_BYTES {
-        return WrittenAnswer::Refused(Refusal::Room);
-    }
     let mut letter = b'N';
     if ms < 0 {
         letter = b'S';
     }
     let line = spelled(whole::size(ms), letter);
-    bytes::copy(&line[1..], out);
-    WrittenAnswer::Gives(LATITUDE_BYTES)
+    put(&line[1..], out)
 }
 
 // Writes a longitude in ms to the first 12 bytes of out. Refused: 3 below 0 or from 360° up, 7 out is shorter.
@@ -83,12 +79,8 @@ pub fn write_longitude(ms: i64, out: &mut [u8]) -> WrittenAnswer
     if let LocalLongitudeAnswer::Refused(why) = LocalLongitude::new(ms) {
         return WrittenAnswer::Refused(why);
     }
-    if out.len() < LONGITUDE_BYTES {
-        return WrittenAnswer::Refused(Refusal::Room);
-    }
     let line = spelled(whole::size(ms), b'E');
-    bytes::copy(&line, out);
-    WrittenAnswer::Gives(LONGITUDE_BYTES)
+    put(&line, out)
 }
 
 const LATITUDE_BYTES: usize = 11;
@@ -181,4 +173,15 @@ fn spelled(ms: u64, letter: u8) -> [u8; 12]
         last_digit(thousandths),
         letter,
     ]
+}
+
+// Puts a text at the start of out. Refused: 7 out is shorter.
+fn put(text: &[u8], out: &mut [u8]) -> WrittenAnswer
+    ensures { λ r. ⌜ written r ≡ counted (placed (now (text .entry)) (length (now (out .entry)))) ⌝ }
+    ensures { λ r. ⌜ now (out .exit) ≡ lent (placed (now (text .entry)) (length (now (out .entry)))) (now (out .entry)) ⌝ }
+{
+    if out.len() < text.len() {
+        return WrittenAnswer::Refused(Refusal::Room);
+    }
+    WrittenAnswer::Gives(bytes::copy(text, out))
 }

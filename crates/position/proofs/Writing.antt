@@ -1,0 +1,45 @@
+-- What each return of a writing answers, and what it leaves in the lent buffer. Assumes nothing.
+use mathlib.Core.Path.{_≡_, refl, sym, ap, _∙_}
+use mathlib.Core.Bool.{Bool, true, false}
+use mathlib.Core.List.{List, _++_}
+use Prim.Native.Nat.{ℕ, _<_, _≤_}
+use lib.IntN.{ℤ}
+use lib.ListN.{length, take, drop}
+use lib.Seq.{take-length}
+use borrow.Author.Tests.{le-leb, lt-leb}
+use Rattle.kinds.specs.Answer.{Answer, gives, refused, demand, placed, counted, lent}
+use Rattle.kinds.specs.Kinds.{tested}
+use Rattle.kinds.proofs.Answers.{passed, failed}
+use Rattle.position.specs.Text.{Coordinate, latitude, longitude, inRange, digits, spelled, text, write}
+
+-- ---- the text of a number
+-- a latitude's text is a longitude's without the first digit
+pub spelled-rest : (m b : ℕ) → take 11 (drop 1 (spelled longitude m b)) ≡ spelled latitude m b
+unfolding spelled digits
+spelled-rest m b = refl
+
+-- ---- bytes put at the start of a buffer
+-- what is to be written was written: a is the answer, and l the buffer afterwards
+abbrev pub Written : Answer (List ℕ) → List ℕ → Answer ℕ → List ℕ → Type 0
+Written w out a l = (a ≡ counted w) × (l ≡ lent w out)
+
+module _ (bytes out : List ℕ) where
+  pub no-room : length out < length bytes → Written (placed bytes (length out)) out (refused 7) out
+  no-room h = simp (lt-leb (length bytes) (length out) h) (refl, refl)
+
+  pub copied : length bytes ≤ length out → Written (placed bytes (length out)) out (gives (length bytes)) (take (length bytes) bytes ++ drop (length bytes) out)
+  copied h = simp (le-leb (length bytes) (length out) h) (refl, ap (λ (l : List ℕ). l ++ drop (length bytes) out) (take-length bytes))
+
+-- ---- by what the constructor answers
+module _ (k : Coordinate) (x : ℤ) (out : List ℕ) where
+  pub out-of-range : {n : ℕ} → tested (inRange k x) x ≡ refused n → Written (write k x (length out)) out (refused n) out
+  unfolding write
+  out-of-range h =
+      let f = failed (inRange k x) 3 x h in
+      simp (f .0) (ap refused (f .1), refl)
+
+  pub in-range : {y : ℤ} {a : Answer ℕ} {l : List ℕ} → tested (inRange k x) x ≡ gives y → (bytes : List ℕ) → bytes ≡ text k x → Written (placed bytes (length out)) out a l → Written (write k x (length out)) out a l
+  unfolding write
+  in-range h bytes e w =
+      let p : placed bytes (length out) ≡ demand (inRange k x) 3 (placed (text k x) (length out)) = simp (e, passed (inRange k x) 3 (gives x) h .0) in
+      (w .0 ∙ ap counted p, w .1 ∙ ap (λ (a : Answer (List ℕ)). lent a out) p)
