@@ -21,3 +21,16 @@ module _ {A : Type 0} where
   pub failed : (b : Bool) (n : ℕ) (x : A) {m : ℕ} → demand b n (gives x) ≡ refused m → (b ≡ false) × (m ≡ n)
   failed true n x h = absurd (not-both h)
   failed false n x h = (refl, cc)
+
+  same-number : {n m : ℕ} → _≡_ {A = Answer A} (refused n) (refused m) → n ≡ m
+  same-number h = cc
+
+  -- the test's own number, which nothing behind it gives: the test failed
+  pub own : (b : Bool) (n : ℕ) (a : Answer A) → (a ≡ refused n → ⊥) → demand b n a ≡ refused n → b ≡ false
+  own true n a h e = absurd (h e)
+  own false n a h e = refl
+
+  -- another's number: the test held, and what is behind it gave the number
+  pub behind : (b : Bool) (n m : ℕ) (a : Answer A) → (n ≡ m → ⊥) → demand b n a ≡ refused m → (b ≡ true) × (a ≡ refused m)
+  behind true n m a h e = (refl, e)
+  behind false n m a h e = absurd (h (same-number e))

@@ -14,6 +14,22 @@ use Rattle.position.specs.Text.{Coordinate, latitude, longitude, isDigit
 abbrev at : List ℕ → ℕ → ℕ
 at t i = getD t i 0
 
+-- ---- a list, byte by byte
+-- f 0, f 1 and so on
+abbrev spell : ℕ → (ℕ → ℕ) → List ℕ
+spell zero f = []
+spell (suc n) f = f 0 ∷ spell n (λ i. f (suc i))
+
+spelt : (n : ℕ) (t : List ℕ) → length t ≡ n → t ≡ spell n (at t)
+spelt zero [] h = refl
+spelt zero (b ∷ t) h = absurd (omega arith)
+spelt (suc n) [] h = absurd (omega arith)
+spelt (suc n) (b ∷ t) h = ap (λ (l : List ℕ). b ∷ l) (spelt n t (omega arith))
+
+-- what holds of every list that is spelled out holds of one of that length
+pub by-bytes : (n : ℕ) (P : List ℕ → Type 0) → ((f : ℕ → ℕ) → P (spell n f)) → (t : List ℕ) → length t ≡ n → P t
+by-bytes n P p t h = subst P (sym (spelt n t h)) (p (at t))
+
 -- ---- a part, a byte at a time
 pub part-next : (from n : ℕ) (t : List ℕ) → from < length t → part from (suc n) t ≡ at t from ∷ part (suc from) n t
 part-next from n t h = ap (take (suc n)) (drop-cons t from 0 h)

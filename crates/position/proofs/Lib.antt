@@ -5,3 +5,11 @@ pub mod Bytes
 pub mod Reading
 -- what each return of a writing answers, and leaves in the lent buffer
 pub mod Writing
+-- a number in digits, and back
+pub mod Digits
+-- a text of the form is read as its number, and a text that is read has the form
+pub mod Trip
+-- when each refusal number is given
+pub mod Refusals
+-- what document 01 asks of positions as text
+pub mod Demands

@@ -102,12 +102,20 @@ signed b m = cond (eqb b 83) (negℤ (pos m)) (pos m)
 abbrev pub noZeroSouth : ℕ → ℕ → Bool
 noZeroSouth b m = not (eqb b 83 && eqb m 0)
 
+-- every byte is of its kind
+abbrev pub rightKinds : Coordinate → List ℕ → Bool
+rightKinds k t = isAngle k t && isLetter k (letter k t)
+
+-- the number that the text says
+abbrev pub value : Coordinate → List ℕ → ℤ
+value k t = signed (letter k t) (angle k t)
+
+-- minutes, seconds and the number are in range
+abbrev pub rightRanges : Coordinate → List ℕ → Bool
+rightRanges k t = inSixties k t && noZeroSouth (letter k t) (angle k t) && inRange k (value k t)
+
 unfoldable pub read : Coordinate → List ℕ → Answer ℤ
-read k t =
-    demand (eqb (length t) (size k)) 1
-    (demand (isAngle k t && isLetter k (letter k t)) 2
-    (demand (inSixties k t && noZeroSouth (letter k t) (angle k t) && inRange k (signed (letter k t) (angle k t))) 3
-    (gives (signed (letter k t) (angle k t)))))
+read k t = demand (eqb (length t) (size k)) 1 (demand (rightKinds k t) 2 (demand (rightRanges k t) 3 (gives (value k t))))
 
 -- ---- writing
 -- m ms, with a letter

@@ -13,7 +13,7 @@ pub mod Products
 pub mod Words
 -- a signed word divided, and rounded
 pub mod Divided
--- tests joined by `&&`
+-- tests joined by `&&` and `||`
 pub mod Bools
 -- a test computed for every number below n
 pub mod Below

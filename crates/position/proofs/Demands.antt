@@ -1,0 +1,118 @@
+-- What document 01 asks of positions as text, of latitude and longitude alike. Stated over specs/ alone. Assumes nothing.
+use mathlib.Core.Path.{_≡_, refl, sym, ap, _∙_, subst}
+use mathlib.Core.Bool.{true, false}
+use mathlib.Core.List.{List, [], _∷_, _++_}
+use mathlib.Core.Logic.{_↔_}
+use Prim.Native.Nat.{ℕ, _+_, _*_, _<_, _≤_, _^_}
+use native.Mathlib.Omega.{arith}
+use lib.Dec.{leb}
+use lib.IntN.{ℤ, pos}
+use lib.ListN.{length}
+use borrow.Author.Tests.{le-leb}
+use Rattle.kinds.specs.Answer.{gives, refused, placed}
+use Rattle.kinds.proofs.Answers.{same-value, passed}
+use Rattle.position.specs.Text.{Coordinate, latitude, longitude, places, size, inRange, isLetter, digits, digitOf, allDigits, number, degrees, minutes, seconds, thousandths, letter, isAngle, inSixties, angle, signed, noZeroSouth, rightKinds, rightRanges, read, text, write}
+use Rattle.position.proofs.Trip as trip
+use Rattle.position.proofs.Refusals as refusals
+
+-- ---- 'Writing needs 11 or 12 bytes of a lent buffer'
+-- a number in range is written where there is room for its text
+pub writes : (k : Coordinate) (x : ℤ) (room : ℕ) → inRange k x ≡ true → size k ≤ room → write k x room ≡ gives (text k x)
+unfolding write
+writes k x room h r = simp (h, le-leb (length (text k x)) room (omega (arith, trip.text-size k x)))
+
+-- which is 11 bytes for a latitude and 12 for a longitude
+pub text-size : (k : Coordinate) (x : ℤ) → length (text k x) ≡ size k
+text-size k x = trip.text-size k x
+
+-- ---- 'so each number has one text'
+-- what was written for a number is read as that number
+pub written-reads : (k : Coordinate) (x : ℤ) (room : ℕ) {t : List ℕ} → write k x room ≡ gives t → read k t ≡ gives x
+unfolding write
+written-reads k x room h =
+    let one = passed (inRange k x) 3 (placed (text k x) room) h in
+    let two = passed (leb (length (text k x)) room) 7 (gives (text k x)) (one .1) in
+    ap (read k) (sym (same-value (two .1))) ∙ trip.written-reads k x (one .0)
+
+-- what was read is written as the same bytes
+pub read-writes : (k : Coordinate) (t : List ℕ) {x : ℤ} → read k t ≡ gives x → (room : ℕ) → size k ≤ room → write k x room ≡ gives t
+read-writes k t h room r = writes k _ room (trip.in-range k t h) r ∙ ap gives (trip.read-writes k t h)
+
+-- no number has two texts
+pub one-text : (k : Coordinate) (s t : List ℕ) {x : ℤ} → read k s ≡ gives x → read k t ≡ gives x → s ≡ t
+one-text k s t h j = sym (trip.read-writes k s h) ∙ trip.read-writes k t j
+
+-- ---- 'Text: 11 bytes, ddmmss.sssN or S', '12 bytes, dddmmss.sssE', 'Minutes and seconds are below 60'
+-- t is the text of x: degrees, minutes, seconds and thousandths in their digits, and a letter; all in range
+pub record TextOf (k : Coordinate) (t : List ℕ) (x : ℤ) : Type 0 where
+  pub d : ℕ
+  pub m : ℕ
+  pub s : ℕ
+  pub f : ℕ
+  pub b : ℕ
+  pub form : t ≡ digits (places k) d ++ digits 2 m ++ digits 2 s ++ 46 ∷ digits 3 f ++ b ∷ []
+  pub d-digits : d < 10 ^ places k
+  pub m-below : m < 60
+  pub s-below : s < 60
+  pub f-digits : f < 1000
+  pub b-letter : isLetter k b ≡ true
+  pub not-zero-south : noZeroSouth b (d * 3600000 + m * 60000 + s * 1000 + f) ≡ true
+  pub value : signed b (d * 3600000 + m * 60000 + s * 1000 + f) ≡ x
+  pub range : inRange k x ≡ true
+
+-- a text is accepted, as x, exactly when it is the text of x
+pub accepted : (k : Coordinate) (t : List ℕ) (x : ℤ) → (read k t ≡ gives x) ↔ TextOf k t x
+unfolding angle
+accepted k t x = (of-reading, of-form)
+  where
+    of-reading : read k t ≡ gives x → TextOf k t x
+    of-reading h = record {
+      d = number (degrees k t);
+      m = number (minutes k t);
+      s = number (seconds k t);
+      f = number (thousandths k t);
+      b = letter k t;
+      form = sym (trip.has-form k t h);
+      d-digits = trip.degrees-digits k t h;
+      m-below = trip.below-sixty k t h .0;
+      s-below = trip.below-sixty k t h .1;
+      f-digits = trip.thousandths-digits k t h;
+      b-letter = trip.tests k t h .is-letter;
+      not-zero-south = trip.tests k t h .no-zero-south;
+      value = trip.tests k t h .value-is;
+      range = trip.in-range k t h;
+    }
+
+    of-form : TextOf k t x → read k t ≡ gives x
+    of-form f =
+        ap (read k) (f .form)
+        ∙ trip.reads k (f .b) (f .d-digits) (f .m-below) (f .s-below) (f .f-digits) (f .b-letter) (f .not-zero-south) (subst (λ (x : ℤ). inRange k x ≡ true) (sym (f .value)) (f .range))
+        ∙ ap gives (f .value)
+
+-- ---- 'For a position text: 1, 2, 3': when each number is given
+pub given-1 : (k : Coordinate) (t : List ℕ) → (read k t ≡ refused 1) ↔ (length t ≡ size k → ⊥)
+given-1 k t = refusals.given-1 k t
+
+pub given-2 : (k : Coordinate) (t : List ℕ) → (read k t ≡ refused 2) ↔ ((length t ≡ size k) × (rightKinds k t ≡ false))
+given-2 k t = refusals.given-2 k t
+
+pub given-3 : (k : Coordinate) (t : List ℕ) → (read k t ≡ refused 3) ↔ ((length t ≡ size k) × ((rightKinds k t ≡ true) × (rightRanges k t ≡ false)))
+given-3 k t = refusals.given-3 k t
+
+-- ---- 'For writing one: 3, 7'
+pub written-3 : (k : Coordinate) (x : ℤ) (room : ℕ) → (write k x room ≡ refused 3) ↔ (inRange k x ≡ false)
+written-3 k x room = refusals.written-3 k x room
+
+pub written-7 : (k : Coordinate) (x : ℤ) (room : ℕ) → (write k x room ≡ refused 7) ↔ ((inRange k x ≡ true) × (room < size k))
+written-7 k x room = refusals.written-7 k x room
+
+-- ---- 'Points to hold against the page': two of the twelve
+pub record Worked : Type 0 where
+  -- 900000.000N
+  pub pole : read latitude (57 ∷ 48 ∷ 48 ∷ 48 ∷ 48 ∷ 48 ∷ 46 ∷ 48 ∷ 48 ∷ 48 ∷ 78 ∷ []) ≡ gives (pos 324000000)
+  -- 000000.000S
+  pub zero-south : read latitude (48 ∷ 48 ∷ 48 ∷ 48 ∷ 48 ∷ 48 ∷ 46 ∷ 48 ∷ 48 ∷ 48 ∷ 83 ∷ []) ≡ refused 3
+
+pub worked : Worked
+unfolding read isAngle inSixties angle allDigits number digitOf
+worked = record { pole = refl; zero-south = refl }
