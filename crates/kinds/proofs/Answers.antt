@@ -1,9 +1,12 @@
--- What an answer says of the tests before it. Assumes nothing.
-use mathlib.Core.Path.{_≡_, refl, sym}
-use mathlib.Core.Bool.{Bool, true, false}
+-- What an answer says of the tests before it, and how what is said determines the answer. Assumes nothing.
+use mathlib.Core.Path.{_≡_, refl, sym, ap, _∙_}
+use mathlib.Core.Bool.{Bool, true, false, cond}
 use Prim.Native.Nat.{ℕ}
 use native.Mathlib.Omega.{arith}
-use Rattle.kinds.specs.Answer.{Answer, gives, refused, demand}
+use lib.Dec.{eqb}
+use Rattle.kinds.specs.Answer.{Answer, gives, refused, demand, numberOf}
+use Rattle.kinds.specs.declared.Refusal.{Refusal}
+use Rattle.kinds.specs.declared.Refusal.the-variants.{Length, Kind, Range, Code, Family, Area, Room, Foreign, Sheet}
 
 module _ {A : Type 0} where
   pub not-both : {y : A} {n : ℕ} → gives y ≡ refused n → ⊥
@@ -34,3 +37,31 @@ module _ {A : Type 0} where
   pub behind : (b : Bool) (n m : ℕ) (a : Answer A) → (n ≡ m → ⊥) → demand b n a ≡ refused m → (b ≡ true) × (a ≡ refused m)
   behind true n m a h e = (refl, e)
   behind false n m a h e = absurd (h (same-number e))
+
+-- ---- an answer by what is said of it
+-- the refusal that has a number
+abbrev pub refusal : ℕ → Refusal
+refusal n = cond (eqb n 1) Length (cond (eqb n 2) Kind (cond (eqb n 3) Range (cond (eqb n 4) Code (cond (eqb n 5) Family (cond (eqb n 6) Area (cond (eqb n 7) Room (cond (eqb n 8) Foreign Sheet)))))))
+
+pub number-back : (r : Refusal) → refusal (numberOf r) ≡ r
+number-back Length = refl
+number-back Kind = refl
+number-back Range = refl
+number-back Code = refl
+number-back Family = refl
+number-back Area = refl
+number-back Room = refl
+number-back Foreign = refl
+number-back Sheet = refl
+
+pub same-refusal : (r s : Refusal) → numberOf r ≡ numberOf s → r ≡ s
+same-refusal r s h = sym (number-back r) ∙ ap refusal h ∙ number-back s
+
+-- an enum E with the cases yes and no, of which `said` speaks
+module _ {E A : Type 0} (yes : A → E) (no : Refusal → E) where
+  abbrev pub rebuilt : Answer A → E
+  rebuilt (gives v) = yes v
+  rebuilt (refused n) = no (refusal n)
+
+  pub determined : (said : E → Answer A) → ((e : E) → rebuilt (said e) ≡ e) → (a b : E) → said a ≡ said b → a ≡ b
+  determined said back a b h = sym (back a) ∙ ap rebuilt h ∙ back b

@@ -5,3 +5,5 @@ pub mod Answers
 pub mod Tested
 -- a local position converted by its shift
 pub mod Conversion
+-- what document 01 asks of refusals, lent buffers and kinds
+pub mod Demands

@@ -38,20 +38,22 @@ module _ (k : Coordinate) (t : List ℕ) where
 
   pub given-2 : (read k t ≡ refused 2) ↔ ((length t ≡ size k) × (rightKinds k t ≡ false))
   unfolding read
-  given-2 =
-      ((λ h.
+  given-2 = (
+    (λ h.
         let one = behind long 1 2 kinded (λ z. omega arith) h in
         (eqb-true (length t) (size k) (one .0), own (rightKinds k t) 2 ranged (ranged-gives 2 (λ z. omega arith)) (one .1))),
-      (λ h. simp (eq-eqb (length t) (size k) (h .0), h .1)))
+    (λ h. simp (eq-eqb (length t) (size k) (h .0), h .1)),
+  )
 
   pub given-3 : (read k t ≡ refused 3) ↔ ((length t ≡ size k) × ((rightKinds k t ≡ true) × (rightRanges k t ≡ false)))
   unfolding read
-  given-3 =
-      ((λ h.
+  given-3 = (
+    (λ h.
         let one = behind long 1 3 kinded (λ z. omega arith) h in
         let two = behind (rightKinds k t) 2 3 ranged (λ z. omega arith) (one .1) in
         (eqb-true (length t) (size k) (one .0), (two .0, own (rightRanges k t) 3 (gives (value k t)) not-both (two .1)))),
-      (λ h. simp (eq-eqb (length t) (size k) (h .0), h .1 .0, h .1 .1)))
+    (λ h. simp (eq-eqb (length t) (size k) (h .0), h .1 .0, h .1 .1)),
+  )
 
 -- ---- writing
 module _ (k : Coordinate) (x : ℤ) (room : ℕ) where
@@ -60,14 +62,16 @@ module _ (k : Coordinate) (x : ℤ) (room : ℕ) where
 
   pub written-3 : (write k x room ≡ refused 3) ↔ (inRange k x ≡ false)
   unfolding write
-  written-3 =
-      ((λ h. own (inRange k x) 3 (placed (text k x) room) (λ e. not-both (behind fits 7 3 (gives (text k x)) (λ z. omega arith) e .1)) h),
-      (λ h. simp h))
+  written-3 = (
+    (λ h. own (inRange k x) 3 (placed (text k x) room) (λ e. not-both (behind fits 7 3 (gives (text k x)) (λ z. omega arith) e .1)) h),
+    (λ h. simp h),
+  )
 
   pub written-7 : (write k x room ≡ refused 7) ↔ ((inRange k x ≡ true) × (room < size k))
   unfolding write
-  written-7 =
-      ((λ h.
+  written-7 = (
+    (λ h.
         let one = behind (inRange k x) 3 7 (placed (text k x) room) (λ z. omega arith) h in
         (one .0, omega (arith, text-size k x, leb-false (length (text k x)) room (own fits 7 (gives (text k x)) not-both (one .1))))),
-      (λ h. simp (h .0, lt-leb (length (text k x)) room (omega (arith, text-size k x, h .1)))))
+    (λ h. simp (h .0, lt-leb (length (text k x)) room (omega (arith, text-size k x, h .1)))),
+  )

@@ -6,7 +6,6 @@ use kinds::LocalLongitude;
 use kinds::LocalLongitudeAnswer;
 use kinds::Refusal;
 use kinds::WrittenAnswer;
-
 ghost use mathlib.Core.Path.{_≡_};
 ghost use Prim.Native.Nat.{_+_, _%_, _<_, _≤_};
 ghost use lib.ListN.{length};
@@ -124,7 +123,11 @@ fn is_angle(t: &[u8]) -> bool
     requires { ⌜ length (now t) ≡ 11 ⌝ }
     ensures { λ r. ⌜ r ≡ isAngle latitude (now (t .entry)) ⌝ }
 {
-    is_pair(t, 0) & is_pair(t, 2) & is_pair(t, 4) & (t[6] == b'.') & (is_digit(t[7]) & is_pair(t, 8))
+    is_pair(t, 0)
+        & is_pair(t, 2)
+        & is_pair(t, 4)
+        & (t[6] == b'.')
+        & (is_digit(t[7]) & is_pair(t, 8))
 }
 
 // Minutes and seconds are below 60.
@@ -141,7 +144,10 @@ fn angle(t: &[u8]) -> u64
     ensures { λ r. ⌜ r ≡ angle latitude (now (t .entry)) ⌝ }
     ensures { λ r. ⌜ r < 9_000_000_000 ⌝ }
 {
-    pair(t, 0) * 3_600_000 + pair(t, 2) * 60_000 + pair(t, 4) * 1_000 + (digit(t[7]) * 100 + pair(t, 8))
+    pair(t, 0) * 3_600_000
+        + pair(t, 2) * 60_000
+        + pair(t, 4) * 1_000
+        + (digit(t[7]) * 100 + pair(t, 8))
 }
 
 // The last digit of n, as a byte.

@@ -1,0 +1,104 @@
+-- What document 01 asks of refusals, of lent buffers and of the answers' cases. Stated over specs/ alone. Assumes nothing.
+use mathlib.Core.Path.{_≡_, refl, sym, ap, _∙_}
+use mathlib.Core.List.{List, _++_}
+use Prim.Native.Nat.{ℕ, _≤_}
+use native.Mathlib.Omega.{arith}
+use lib.IntN.{ℤ}
+use lib.ListN.{length, take, drop, length-append, length-drop}
+use lib.Seq.{take-append-seam, drop-append-seam}
+use Rattle.kinds.specs.Answer.{Answer, gives, refused, numberOf, lent}
+use Rattle.kinds.specs.Cases.{localLatitude, localLongitude, wgs84Latitude, wgs84Longitude, angleShift, height, written}
+use Rattle.kinds.specs.declared.Refusal.{Refusal}
+use Rattle.kinds.specs.declared.Refusal.the-variants.{Length, Kind, Range, Code, Family, Area, Room, Foreign, Sheet}
+use Rattle.kinds.specs.declared.LocalLatitudeAnswer.{LocalLatitudeAnswer}
+use Rattle.kinds.specs.declared.LocalLatitudeAnswer.the-variants as LocalLatitude
+use Rattle.kinds.specs.declared.LocalLongitudeAnswer.{LocalLongitudeAnswer}
+use Rattle.kinds.specs.declared.LocalLongitudeAnswer.the-variants as LocalLongitude
+use Rattle.kinds.specs.declared.Wgs84LatitudeAnswer.{Wgs84LatitudeAnswer}
+use Rattle.kinds.specs.declared.Wgs84LatitudeAnswer.the-variants as Wgs84Latitude
+use Rattle.kinds.specs.declared.Wgs84LongitudeAnswer.{Wgs84LongitudeAnswer}
+use Rattle.kinds.specs.declared.Wgs84LongitudeAnswer.the-variants as Wgs84Longitude
+use Rattle.kinds.specs.declared.AngleShiftAnswer.{AngleShiftAnswer}
+use Rattle.kinds.specs.declared.AngleShiftAnswer.the-variants as AngleShift
+use Rattle.kinds.specs.declared.HeightAnswer.{HeightAnswer}
+use Rattle.kinds.specs.declared.HeightAnswer.the-variants as Height
+use Rattle.kinds.specs.declared.WrittenAnswer.{WrittenAnswer}
+use Rattle.kinds.specs.declared.WrittenAnswer.the-variants as Written
+use Rattle.kinds.proofs.Answers.{number-back, same-refusal, rebuilt, determined}
+
+-- ---- 'Refusal numbers'
+-- no two refusals have one number
+pub numbers-differ : (r s : Refusal) → numberOf r ≡ numberOf s → r ≡ s
+numbers-differ r s h = same-refusal r s h
+
+-- and each is one of the table's
+pub numbers-tabled : (r : Refusal) → (1 ≤ numberOf r) × (numberOf r ≤ 9)
+numbers-tabled Length = (omega arith, omega arith)
+numbers-tabled Kind = (omega arith, omega arith)
+numbers-tabled Range = (omega arith, omega arith)
+numbers-tabled Code = (omega arith, omega arith)
+numbers-tabled Family = (omega arith, omega arith)
+numbers-tabled Area = (omega arith, omega arith)
+numbers-tabled Room = (omega arith, omega arith)
+numbers-tabled Foreign = (omega arith, omega arith)
+numbers-tabled Sheet = (omega arith, omega arith)
+
+-- ---- 'Refusals return .. lent memory as it came', 'changes only those, at its start'
+pub refusal-changes-nothing : (n : ℕ) (out : List ℕ) → lent (refused n) out ≡ out
+refusal-changes-nothing n out = refl
+
+pub written-at-start : (bytes out : List ℕ) → take (length bytes) (lent (gives bytes) out) ≡ bytes
+written-at-start bytes out = take-append-seam bytes (drop (length bytes) out)
+
+pub rest-as-it-came : (bytes out : List ℕ) → drop (length bytes) (lent (gives bytes) out) ≡ drop (length bytes) out
+rest-as-it-came bytes out = drop-append-seam bytes (drop (length bytes) out)
+
+-- ---- 'that two permitted answers coincide is proved': two answers that say the same are the same
+pub local-latitude-determined : (a b : LocalLatitudeAnswer) → localLatitude a ≡ localLatitude b → a ≡ b
+local-latitude-determined = determined (λ x. LocalLatitude.Gives (record { 0 = x })) LocalLatitude.Refused localLatitude back
+  where
+    back : (e : LocalLatitudeAnswer) → rebuilt (λ x. LocalLatitude.Gives (record { 0 = x })) LocalLatitude.Refused (localLatitude e) ≡ e
+    back (LocalLatitude.Gives x) = refl
+    back (LocalLatitude.Refused r) = ap LocalLatitude.Refused (number-back r)
+
+pub local-longitude-determined : (a b : LocalLongitudeAnswer) → localLongitude a ≡ localLongitude b → a ≡ b
+local-longitude-determined = determined (λ x. LocalLongitude.Gives (record { 0 = x })) LocalLongitude.Refused localLongitude back
+  where
+    back : (e : LocalLongitudeAnswer) → rebuilt (λ x. LocalLongitude.Gives (record { 0 = x })) LocalLongitude.Refused (localLongitude e) ≡ e
+    back (LocalLongitude.Gives x) = refl
+    back (LocalLongitude.Refused r) = ap LocalLongitude.Refused (number-back r)
+
+pub wgs84-latitude-determined : (a b : Wgs84LatitudeAnswer) → wgs84Latitude a ≡ wgs84Latitude b → a ≡ b
+wgs84-latitude-determined = determined (λ x. Wgs84Latitude.Gives (record { 0 = x })) Wgs84Latitude.Refused wgs84Latitude back
+  where
+    back : (e : Wgs84LatitudeAnswer) → rebuilt (λ x. Wgs84Latitude.Gives (record { 0 = x })) Wgs84Latitude.Refused (wgs84Latitude e) ≡ e
+    back (Wgs84Latitude.Gives x) = refl
+    back (Wgs84Latitude.Refused r) = ap Wgs84Latitude.Refused (number-back r)
+
+pub wgs84-longitude-determined : (a b : Wgs84LongitudeAnswer) → wgs84Longitude a ≡ wgs84Longitude b → a ≡ b
+wgs84-longitude-determined = determined (λ x. Wgs84Longitude.Gives (record { 0 = x })) Wgs84Longitude.Refused wgs84Longitude back
+  where
+    back : (e : Wgs84LongitudeAnswer) → rebuilt (λ x. Wgs84Longitude.Gives (record { 0 = x })) Wgs84Longitude.Refused (wgs84Longitude e) ≡ e
+    back (Wgs84Longitude.Gives x) = refl
+    back (Wgs84Longitude.Refused r) = ap Wgs84Longitude.Refused (number-back r)
+
+pub angle-shift-determined : (a b : AngleShiftAnswer) → angleShift a ≡ angleShift b → a ≡ b
+angle-shift-determined = determined (λ x. AngleShift.Gives (record { 0 = x })) AngleShift.Refused angleShift back
+  where
+    back : (e : AngleShiftAnswer) → rebuilt (λ x. AngleShift.Gives (record { 0 = x })) AngleShift.Refused (angleShift e) ≡ e
+    back (AngleShift.Gives x) = refl
+    back (AngleShift.Refused r) = ap AngleShift.Refused (number-back r)
+
+pub height-determined : (a b : HeightAnswer) → height a ≡ height b → a ≡ b
+height-determined = determined (λ x. Height.Gives (record { 0 = x })) Height.Refused height back
+  where
+    back : (e : HeightAnswer) → rebuilt (λ x. Height.Gives (record { 0 = x })) Height.Refused (height e) ≡ e
+    back (Height.Gives x) = refl
+    back (Height.Refused r) = ap Height.Refused (number-back r)
+
+pub written-determined : (a b : WrittenAnswer) → written a ≡ written b → a ≡ b
+written-determined = determined Written.Gives Written.Refused written back
+  where
+    back : (e : WrittenAnswer) → rebuilt Written.Gives Written.Refused (written e) ≡ e
+    back (Written.Gives x) = refl
+    back (Written.Refused r) = ap Written.Refused (number-back r)
