@@ -86,7 +86,14 @@ const LATITUDE_BYTES: usize = 11;
 
 const LONGITUDE_BYTES: usize = 12;
 
-const HUNDRED_DEGREES: u64 = 360_000_000;
+// ms, unsigned
+const SECOND: u64 = LocalLatitude::SECOND as u64;
+
+const MINUTE: u64 = LocalLatitude::MINUTE as u64;
+
+const DEGREE: u64 = LocalLatitude::DEGREE as u64;
+
+const HUNDRED_DEGREES: u64 = 100 * DEGREE;
 
 fn is_digit(b: u8) -> bool
     ensures { λ r. ⌜ r ≡ isDigit b ⌝ }
@@ -144,9 +151,9 @@ fn angle(t: &[u8]) -> u64
     ensures { λ r. ⌜ r ≡ angle latitude (now (t .entry)) ⌝ }
     ensures { λ r. ⌜ r < 9_000_000_000 ⌝ }
 {
-    pair(t, 0) * 3_600_000
-        + pair(t, 2) * 60_000
-        + pair(t, 4) * 1_000
+    pair(t, 0) * DEGREE
+        + pair(t, 2) * MINUTE
+        + pair(t, 4) * SECOND
         + (digit(t[7]) * 100 + pair(t, 8))
 }
 
@@ -161,10 +168,10 @@ fn last_digit(n: u64) -> u8
 fn spelled(ms: u64, letter: u8) -> [u8; 12]
     ensures { λ r. ⌜ r ≡ spelled longitude ms letter ⌝ }
 {
-    let thousandths = ms % 1_000;
-    let seconds = ms / 1_000 % 60;
-    let minutes = ms / 1_000 / 60 % 60;
-    let degrees = ms / 1_000 / 60 / 60;
+    let thousandths = ms % SECOND;
+    let seconds = ms / SECOND % 60;
+    let minutes = ms / SECOND / 60 % 60;
+    let degrees = ms / SECOND / 60 / 60;
     [
         last_digit(degrees / 100),
         last_digit(degrees / 10),
