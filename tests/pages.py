@@ -1,10 +1,11 @@
 #!/usr/bin/env python3
-"""What the program `pages` must print, worked out from the papers with Python's fractions.
+"""What the program `pages` must print, worked out from the papers with Python's fractions and regular expressions.
 
     python3 tests/pages.py           prints it
     python3 tests/pages.py --check   holds it to crates/pages/stdout, to which the gate holds the program,
                                      and the points that document 01 gives in figures to the same arithmetic
 """
+import re
 import sys
 from fractions import Fraction
 from math import floor
@@ -44,8 +45,109 @@ def powers(u):
     return ' '.join(map(str, out))
 
 
+# The kinds: least and largest of each, and numbers around every end.
+DEGREE = 3_600_000             # in ms
+KINDS = [
+    (-90 * DEGREE, 90 * DEGREE), (0, 360 * DEGREE - 1),                  # local latitude, local longitude
+    (-9000 * DEGREE, 9000 * DEGREE), (0, 36000 * DEGREE - 1),            # the same on WGS 84, in 0.00001"
+    (-2 ** 31, 2 ** 31 - 1), (-2 ** 31, 2 ** 31 - 1),                    # shift, height: 4 bytes
+]
+RAW = [
+    -2 ** 63, -32_400_000_001, -32_400_000_000, -2 ** 31 - 1, -2 ** 31, -324_000_001, -324_000_000, -1, 0, 1,
+    324_000_000, 324_000_001, 1_295_999_999, 1_296_000_000, 2 ** 31 - 1, 2 ** 31, 2 ** 32 + 1, 32_400_000_000, 32_400_000_001,
+    129_599_999_999, 129_600_000_000, 2 ** 63 - 1,
+]
+SHIFTED = [                    # ms and a shift; the first two are code 1's centre
+    (35 * DEGREE, -384_288), (33 * DEGREE, -110_294), (0, -1),
+    (-324_000_000, -2 ** 31), (324_000_000, 2 ** 31 - 1), (1_295_999_999, 2 ** 31 - 1),
+]
+
+# Positions as text.
+LATITUDE = (2, 'NS', *KINDS[0])
+LONGITUDE = (3, 'E', *KINDS[1])
+TEXTS = """
+    900000.000N 900000.001N 900000.000S 900000.001S 3600000.000E 3595959.999E 000000.000N 000000.000S 000000.001S
+    0000000.000E 005960.000N 006000.000N 005959.999N 0005960.000E 0006000.000E 344323.316N 0322806.026E 091909.051N
+    0121350.125E 344323.316n 344323.316s 0322806.026e 344323,316N 0322806,026E 1650000.000W 0322806.026N 344323.316E
+""".split() + ['', '99 999.999N'] + '+44323.316N -44323.316N 4200000.000E 9999999.999E 999999.999S'.split()
+CHANGED = ['0344323.316N', '0322806.026E']
+CUT = ['344323.316N344323.31', '0322806.026E0322806.']
+WRITTEN = [
+    -2 ** 63, -324_000_001, -324_000_000, -1, 0, 1, 3_599_999, 123_456_789, 323_999_999, 324_000_000, 324_000_001,
+    1_295_999_999, 1_296_000_000, 2 ** 32, 2 ** 63 - 1,
+]
+ROOMS = [0, 10, 11, 12, 14]
+
+
+def made(n):
+    return f'{n}: ' + ' '.join(str(n) if least <= n <= largest else 'refused 3' for least, largest in KINDS)
+
+
+def shifted(ms, shift):
+    """By each of the two local kinds, where ms is in its range."""
+    return f'{ms} by {shift}:' + ''.join(f' {100 * ms + shift}' for least, largest in KINDS[:2] if least <= ms <= largest)
+
+
+def read(form, text):
+    """A number in brackets, or the digit of the refusal."""
+    places, letters, least, largest = form
+    if len(text) != places + 9:
+        return '1'
+    parts = re.fullmatch(rb'([0-9]{%d})([0-9]{2})([0-9]{2})[.]([0-9]{3})([%s])' % (places, letters.encode()), text)
+    if not parts:
+        return '2'
+    d, m, s, f = (int(p) for p in parts.groups()[:4])
+    ms = ((d * 60 + m) * 60 + s) * 1000 + f
+    if parts[5] == b'S':
+        if ms == 0:
+            return '3'
+        ms = -ms
+    return f'({ms})' if m < 60 and s < 60 and least <= ms <= largest else '3'
+
+
+def both(text):
+    return read(LATITUDE, text) + read(LONGITUDE, text)
+
+
+def at(text, place):
+    """Every byte at one place of 12: the last 11 as a latitude, and all as a longitude."""
+    out = ''
+    for b in range(256):
+        changed = text[:place] + bytes([b]) + text[place + 1:]
+        out += read(LATITUDE, changed[1:]) + read(LONGITUDE, changed)
+    return f'byte {place}: {out}'
+
+
+def write(form, ms, room):
+    """The answer, and 14 bytes of which the first are lent."""
+    places, letters, least, largest = form
+    out = '#' * 14
+    if not least <= ms <= largest:
+        return '3' + out
+    if room < places + 9:
+        return '7' + out
+    rest, f = divmod(abs(ms), 1000)
+    rest, s = divmod(rest, 60)
+    d, m = divmod(rest, 60)
+    text = f'{d:0{places}d}{m:02d}{s:02d}.{f:03d}{letters[ms < 0]}'
+    return f'({len(text)})' + text + out[len(text):]
+
+
+def positions():
+    lines = ['position'] + [f'{t}: ' + both(t.encode()) for t in TEXTS]
+    lines += [at(t.encode(), place) for t in CHANGED for place in range(12)]
+    lines += ['lengths: ' + ''.join(both(t.encode()[:n]) for n in range(21)) for t in CUT]
+    lines += [f'{n} into {room}: {write(LATITUDE, n, room)} {write(LONGITUDE, n, room)}' for n in WRITTEN for room in ROOMS]
+    return lines
+
+
+def kinds():
+    return ['kinds' + ''.join(f' refused {n}' for n in range(1, 10))] + [made(n) for n in RAW] + [shifted(*p) for p in SHIFTED]
+
+
 def text():
-    return '\n'.join(['whole'] + [quotients(n) for n in NUMBERS] + [powers(u) for u in POWERS]) + '\n'
+    whole = ['whole'] + [quotients(n) for n in NUMBERS] + [powers(u) for u in POWERS]
+    return '\n'.join(whole + kinds() + positions()) + '\n'
 
 
 def check():
@@ -57,6 +159,10 @@ def check():
         (Fraction(39_269_908 ** 2, SCALE), 15_421_257),
     ]
     wrong = [f'{x} gives {rounded(x)}, and the paper says {n}' for x, n in points if rounded(x) != n]
+    texts = [
+        (LATITUDE, '900000.000N', '(324000000)'), (LATITUDE, '000000.000S', '3'), (LATITUDE, '900000.001N', '3'), (LONGITUDE, '3600000.000E', '3'),
+    ]
+    wrong += [f'{t} gives {read(k, t.encode())}, and the paper says {a}' for k, t, a in texts if read(k, t.encode()) != a]
     with open('crates/pages/stdout', encoding='ascii') as f:
         if f.read() != text():
             wrong.append('crates/pages/stdout is not what this script works out')
@@ -65,6 +171,6 @@ def check():
 
 if '--check' in sys.argv:
     problems = check()
-    print('\n'.join(problems) or f'pages: {len(NUMBERS) * 9 + len(POWERS) * 9} numbers and 6 points of document 01 agree')
+    print('\n'.join(problems) or f'pages: {text().count(chr(10))} lines and 10 points of document 01 agree')
     sys.exit(1 if problems else 0)
 sys.stdout.write(text())

@@ -1,13 +1,20 @@
 // A test program: the papers' points and the edges of the machine's numbers, through the compiled crates, a line each.
 // tests/pages.py works out what it must print from the papers, with arithmetic of its own.
+mod quantities;
+mod texts;
+
 use libc::STDOUT_FILENO;
 
-fn print(before: &[u8], n: i64) {
+pub(crate) fn print(before: &[u8], n: i64) {
     io::write_all(STDOUT_FILENO, before);
     if n < 0 {
         io::write_all(STDOUT_FILENO, b"-");
     }
     io::print_decimal(STDOUT_FILENO, whole::size(n));
+}
+
+pub(crate) fn print_i32(before: &[u8], n: i32) {
+    print(before, n as i64);
 }
 
 // n, n over each of eight divisors, and over the scale by the function that has it as a constant.
@@ -71,5 +78,7 @@ fn main() {
     powers(-39_269_908);
     powers(251_327_412);
     powers(-251_327_412);
+    quantities::all();
+    texts::all();
     io::write_all(STDOUT_FILENO, b"\n");
 }

@@ -1,0 +1,93 @@
+-- `pages::texts::bytes_at` is safe and ends. Assumes nothing.
+use mathlib.Core.Path.{_≡_}
+use Prim.Native.Nat.{_≤_, _-_}
+use lib.ListN.{length, length-set}
+use native.Mathlib.Omega.{arith}
+use borrow.Author.Needs.{needs}
+use Rattle.pages.proofs.texts.bytes_at.Statement.{statement}
+use Rattle.pages.proofs.texts.bytes_at.Tie as tie
+
+abbrev Inv-loop : tie.InvT-loop
+Inv-loop text₀ place b₀ text b = (length text ≡ 12) × (b ≤ 256)
+
+abbrev μ-loop : tie.MeasureT-loop
+μ-loop text₀ place b₀ text b = 256 - b
+
+slice-aggregate-print : tie.Need-slice-aggregate-print Inv-loop μ-loop
+slice-aggregate-print c = search needs
+
+cast-print : tie.Need-cast-print Inv-loop μ-loop
+cast-print c = search needs
+
+print-requires : tie.Need-print-requires Inv-loop μ-loop
+print-requires c κs = search needs
+
+slice-aggregate-write-all : tie.Need-slice-aggregate-write-all Inv-loop μ-loop
+slice-aggregate-write-all c = search needs
+
+write-all-requires : tie.Need-write-all-requires Inv-loop μ-loop
+write-all-requires c κs = search needs
+
+loop-holds : tie.Need-loop-holds Inv-loop μ-loop
+loop-holds c = search needs
+
+cast-text : tie.Need-cast-text Inv-loop μ-loop
+cast-text c = search needs
+
+slice-write-text : tie.Need-slice-write-text Inv-loop μ-loop
+slice-write-text c = search needs
+
+sub-latitude : tie.Need-sub-latitude Inv-loop μ-loop
+sub-latitude c = simp length-set (omega (arith, c .before .loop .inv .0))
+
+part-latitude-start : tie.Need-part-latitude-start Inv-loop μ-loop
+part-latitude-start c = simp length-set (omega (arith, c .before .before .loop .inv .0))
+
+part-latitude-end : tie.Need-part-latitude-end Inv-loop μ-loop
+part-latitude-end c = search needs
+
+latitude-requires : tie.Need-latitude-requires Inv-loop μ-loop
+latitude-requires c κs = search needs
+
+longitude-requires : tie.Need-longitude-requires Inv-loop μ-loop
+longitude-requires c κs = search needs
+
+add-b : tie.Need-add-b Inv-loop μ-loop
+add-b c = search needs
+
+loop-less : tie.Need-loop-less Inv-loop μ-loop
+loop-less c = search needs
+
+loop-again : tie.Need-loop-again Inv-loop μ-loop
+loop-again c = search needs
+
+same-length : tie.Need-same-length Inv-loop μ-loop
+same-length c = search needs
+
+returns : tie.Need-returns Inv-loop μ-loop
+returns c = search needs
+
+pub bytes-at-spec : {M : Type 1} → statement M
+bytes-at-spec =
+    tie.close
+    (tie.spec
+    Inv-loop
+    μ-loop
+    slice-aggregate-print
+    cast-print
+    print-requires
+    slice-aggregate-write-all
+    write-all-requires
+    loop-holds
+    cast-text
+    slice-write-text
+    sub-latitude
+    part-latitude-start
+    part-latitude-end
+    latitude-requires
+    longitude-requires
+    add-b
+    loop-less
+    loop-again
+    same-length
+    returns)

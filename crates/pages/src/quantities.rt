@@ -1,0 +1,106 @@
+// The kinds: their constructors at the ends of every range, the numbers of the refusals, and positions converted.
+use kinds::AngleShift;
+use kinds::AngleShiftAnswer;
+use kinds::Height;
+use kinds::HeightAnswer;
+use kinds::LocalLatitude;
+use kinds::LocalLatitudeAnswer;
+use kinds::LocalLongitude;
+use kinds::LocalLongitudeAnswer;
+use kinds::Refusal;
+use kinds::Wgs84Latitude;
+use kinds::Wgs84LatitudeAnswer;
+use kinds::Wgs84Longitude;
+use kinds::Wgs84LongitudeAnswer;
+use libc::STDOUT_FILENO;
+
+fn refused(why: Refusal) {
+    super::print(b" refused ", why.number() as i64);
+}
+
+// A raw number through each constructor.
+fn made(n: i64) {
+    super::print(b"\n", n);
+    io::write_all(STDOUT_FILENO, b":");
+    match LocalLatitude::new(n) {
+        LocalLatitudeAnswer::Gives(x) => super::print_i32(b" ", x.ms()),
+        LocalLatitudeAnswer::Refused(why) => refused(why),
+    }
+    match LocalLongitude::new(n) {
+        LocalLongitudeAnswer::Gives(x) => super::print_i32(b" ", x.ms()),
+        LocalLongitudeAnswer::Refused(why) => refused(why),
+    }
+    match Wgs84Latitude::new(n) {
+        Wgs84LatitudeAnswer::Gives(x) => super::print(b" ", x.units()),
+        Wgs84LatitudeAnswer::Refused(why) => refused(why),
+    }
+    match Wgs84Longitude::new(n) {
+        Wgs84LongitudeAnswer::Gives(x) => super::print(b" ", x.units()),
+        Wgs84LongitudeAnswer::Refused(why) => refused(why),
+    }
+    match AngleShift::new(n) {
+        AngleShiftAnswer::Gives(x) => super::print_i32(b" ", x.units()),
+        AngleShiftAnswer::Refused(why) => refused(why),
+    }
+    match Height::new(n) {
+        HeightAnswer::Gives(x) => super::print_i32(b" ", x.mm()),
+        HeightAnswer::Refused(why) => refused(why),
+    }
+}
+
+// A local latitude, and a longitude of the same ms, by a shift; nothing where one of them is out of range.
+fn converted(ms: i64, shift: i64) {
+    super::print(b"\n", ms);
+    super::print(b" by ", shift);
+    io::write_all(STDOUT_FILENO, b":");
+    let AngleShiftAnswer::Gives(by) = AngleShift::new(shift) else {
+        return;
+    };
+    if let LocalLatitudeAnswer::Gives(x) = LocalLatitude::new(ms) {
+        super::print(b" ", x.shifted(by).units());
+    }
+    if let LocalLongitudeAnswer::Gives(x) = LocalLongitude::new(ms) {
+        super::print(b" ", x.shifted(by).units());
+    }
+}
+
+pub(crate) fn all() {
+    io::write_all(STDOUT_FILENO, b"\nkinds");
+    refused(Refusal::Length);
+    refused(Refusal::Kind);
+    refused(Refusal::Range);
+    refused(Refusal::Code);
+    refused(Refusal::Family);
+    refused(Refusal::Area);
+    refused(Refusal::Room);
+    refused(Refusal::Foreign);
+    refused(Refusal::Sheet);
+    made(-9_223_372_036_854_775_808);
+    made(-32_400_000_001);
+    made(-32_400_000_000);
+    made(-2_147_483_649);
+    made(-2_147_483_648);
+    made(-324_000_001);
+    made(-324_000_000);
+    made(-1);
+    made(0);
+    made(1);
+    made(324_000_000);
+    made(324_000_001);
+    made(1_295_999_999);
+    made(1_296_000_000);
+    made(2_147_483_647);
+    made(2_147_483_648);
+    made(4_294_967_297);
+    made(32_400_000_000);
+    made(32_400_000_001);
+    made(129_599_999_999);
+    made(129_600_000_000);
+    made(9_223_372_036_854_775_807);
+    converted(126_000_000, -384_288);
+    converted(118_800_000, -110_294);
+    converted(0, -1);
+    converted(-324_000_000, -2_147_483_648);
+    converted(324_000_000, 2_147_483_647);
+    converted(1_295_999_999, 2_147_483_647);
+}
