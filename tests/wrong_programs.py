@@ -11,6 +11,7 @@ import shutil
 import subprocess
 import sys
 import tempfile
+from concurrent.futures import ThreadPoolExecutor
 
 PROGRAM = 'pages'
 
@@ -55,8 +56,9 @@ status, said = tried(None)
 if status != 0:
     wrong.append(f'{PROGRAM}, unedited, ends with {status}: {said[:200]}')
 edits = [e for e in sorted(glob.glob('crates/*/must-fail/*.edit')) if of_source(e)]
-for edit in edits:
-    status, said = tried(edit)
+with ThreadPoolExecutor(os.cpu_count()) as pool:
+    runs = list(pool.map(tried, edits))
+for edit, (status, said) in zip(edits, runs):
     if status == 0:
         wrong.append(f'{edit}: {PROGRAM} prints what it must all the same')
     elif 'FAIL: ' not in said:
