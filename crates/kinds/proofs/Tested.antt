@@ -1,7 +1,7 @@
 -- A raw number x that was tested: what a constructor answers, at any width of the kind. Assumes nothing.
-use mathlib.Core.Path.{_≡_, sym, ap, _∙_, subst}
+use mathlib.Core.Path.{_≡_, sym, ap, _∙_}
 use mathlib.Core.Bool.{Bool, true, false}
-use Prim.Native.Nat.{ℕ, _<_, _≤_, _^_}
+use Prim.Native.Nat.{ℕ, _<_, _^_}
 use native.Mathlib.Omega.{arith}
 use lib.IntN.{ℤ, pos, negsuc}
 use lib.Signed.{leZ, mag}
@@ -9,8 +9,8 @@ use borrow.Author.Tests.{leb-true}
 use mir.Syntax.{Width, w64}
 use mir.Val.{SFits, hbits, toZ, ofZ}
 use Rattle.whole.proofs.Bools.{both}
-use Rattle.whole.proofs.Words.{Holds, of, cast, cast-asks}
-use Rattle.kinds.specs.Answer.{Answer, gives, refused}
+use Rattle.whole.proofs.Words.{of, cast, cast-asks}
+use Rattle.kinds.specs.Answer.{gives, refused}
 use Rattle.kinds.specs.Kinds.{within, tested}
 
 -- what lies between two numbers that a width holds, it holds

@@ -1,6 +1,5 @@
 -- Document 01, 'Positions': the kinds of quantity, their units and limits, and the conversion of a local position.
-use mathlib.Core.Bool.{Bool, true, false, _&&_}
-use Prim.Native.Nat.{ℕ}
+use mathlib.Core.Bool.{Bool, _&&_}
 use lib.IntN.{ℤ, pos, negℤ, _+ℤ_, _*ℤ_}
 use lib.Signed.{leZ}
 use Rattle.kinds.specs.Answer.{Answer, gives, demand}

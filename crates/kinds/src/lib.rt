@@ -146,9 +146,9 @@ impl AngleShift {
     pub const PER_SECOND: f64 = 100_000.0;
 
     // what a signed 4-byte number holds
-    pub const LEAST: i64 = -2_147_483_648;
+    pub const LEAST: i64 = i32::MIN as i64;
 
-    pub const LARGEST: i64 = 2_147_483_647;
+    pub const LARGEST: i64 = i32::MAX as i64;
 
     pub fn new(units: i64) -> AngleShiftAnswer
         ensures { λ r. ⌜ angleShift r ≡ tested (isFourBytes units) units ⌝ }
@@ -180,9 +180,9 @@ impl Height {
     pub const PER_METRE: f64 = 1_000.0;
 
     // what a signed 4-byte number holds
-    pub const LEAST: i64 = -2_147_483_648;
+    pub const LEAST: i64 = i32::MIN as i64;
 
-    pub const LARGEST: i64 = 2_147_483_647;
+    pub const LARGEST: i64 = i32::MAX as i64;
 
     pub fn new(mm: i64) -> HeightAnswer
         ensures { λ r. ⌜ height r ≡ tested (isFourBytes mm) mm ⌝ }

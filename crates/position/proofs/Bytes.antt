@@ -1,15 +1,14 @@
 -- A text by its bytes, as the code reads them; and a longitude's text as a digit and a text of a latitude's form.
 -- Assumes nothing.
 use mathlib.Core.Path.{_≡_, refl, sym, ap, _∙_, subst}
-use mathlib.Core.Bool.{Bool, true, false, _&&_, and-assoc, and-true}
-use mathlib.Core.List.{List, [], _∷_, _++_}
-use Prim.Native.Nat.{ℕ, zero, suc, _+_, _-_, _*_, _/_, _%_, _<_, _≤_, _^_}
+use mathlib.Core.Bool.{_&&_, and-assoc, and-true}
+use mathlib.Core.List.{List, [], _∷_}
+use Prim.Native.Nat.{ℕ, zero, suc, _+_, _-_, _*_, _<_, _≤_, _^_}
 use native.Mathlib.Numerals.{add-one}
 use native.Mathlib.Omega.{arith}
-use lib.Dec.{eqb, ltb}
 use lib.ListN.{length, getD, take, drop}
 use lib.Seq.{drop-cons, take-all, length-take-le}
-use Rattle.position.specs.Text.{Coordinate, latitude, longitude, isDigit, digitOf, allDigits, number, digits, part, isAngle, inSixties, angle, spelled}
+use Rattle.position.specs.Text.{latitude, longitude, isDigit, digitOf, allDigits, number, part, isAngle, inSixties, angle}
 
 abbrev at : List ℕ → ℕ → ℕ
 at t i = getD t i 0

@@ -11,7 +11,7 @@ use lib.ListN.{length}
 use borrow.Author.Tests.{le-leb}
 use Rattle.kinds.specs.Answer.{gives, refused, placed}
 use Rattle.kinds.proofs.Answers.{same-value, passed}
-use Rattle.position.specs.Text.{Coordinate, latitude, longitude, places, size, inRange, isLetter, digits, digitOf, allDigits, number, degrees, minutes, seconds, thousandths, letter, isAngle, inSixties, angle, signed, noZeroSouth, rightKinds, rightRanges, read, text, write}
+use Rattle.position.specs.Text.{Coordinate, latitude, places, size, inRange, isLetter, fullStop, digits, digitOf, allDigits, number, degrees, minutes, seconds, thousandths, letter, isAngle, inSixties, angle, signed, noZeroSouth, rightKinds, rightRanges, read, text, write}
 use Rattle.position.proofs.Trip as trip
 use Rattle.position.proofs.Refusals as refusals
 
@@ -50,7 +50,7 @@ pub record TextOf (k : Coordinate) (t : List ℕ) (x : ℤ) : Type 0 where
   pub s : ℕ
   pub f : ℕ
   pub b : ℕ
-  pub form : t ≡ digits (places k) d ++ digits 2 m ++ digits 2 s ++ 46 ∷ digits 3 f ++ b ∷ []
+  pub form : t ≡ digits (places k) d ++ digits 2 m ++ digits 2 s ++ fullStop ∷ digits 3 f ++ b ∷ []
   pub d-digits : d < 10 ^ places k
   pub m-below : m < 60
   pub s-below : s < 60

@@ -1,6 +1,6 @@
 -- Digits: a number in so many digits, and the number that digits say, at any width. Assumes nothing.
 use mathlib.Core.Path.{_≡_, refl, sym, ap, _∙_}
-use mathlib.Core.Bool.{Bool, true, false, _&&_}
+use mathlib.Core.Bool.{true}
 use mathlib.Core.List.{List, [], _∷_}
 use Prim.Native.Nat.{ℕ, zero, suc, _+_, _-_, _*_, _/_, _%_, _<_, _≤_, _^_}
 use native.Mathlib.Nat.{pow-suc, mod-lt, mod-eq-of-lt, mod-one, div-add-mod', div-eq-of-lt, mul-add-div-right, mul-add-mod-self-right, mul-le-mul-right}

@@ -4,11 +4,11 @@ use mathlib.Core.Bool.{Bool, true, false, _&&_, not, and-true}
 use mathlib.Core.List.{List}
 use Prim.Native.Nat.{ℕ}
 use lib.Dec.{eqb}
-use lib.IntN.{ℤ, pos, negℤ}
+use lib.IntN.{pos, negℤ}
 use lib.ListN.{length}
 use borrow.Author.Tests.{eq-eqb, ne-eqb, eqb-true, not-true, not-false}
 use Rattle.whole.proofs.Bools.{both}
-use Rattle.kinds.specs.Answer.{Answer, refused, demand}
+use Rattle.kinds.specs.Answer.{refused}
 use Rattle.kinds.specs.Kinds.{tested}
 use Rattle.position.specs.Text.{Coordinate, longitude, size, letter, isLetter, isAngle, inSixties, angle, inRange, signed, noZeroSouth, read}
 

@@ -1,26 +1,26 @@
 -- There and back: a text of 01's form is read as its number, and a text that is read has that form. Both texts at once; where
 -- they differ, in the digits of the degrees, the limit and the letters, a law goes by cases. Assumes nothing.
 use mathlib.Core.Path.{_≡_, refl, sym, ap, _∙_, subst}
-use mathlib.Core.Bool.{Bool, true, false, _&&_, _||_, not, false≢true}
+use mathlib.Core.Bool.{true, false, _&&_, not, false≢true}
 use mathlib.Core.List.{List, [], _∷_, _++_}
 use Prim.Native.Nat.{ℕ, zero, suc, _+_, _*_, _/_, _%_, _<_, _≤_, _^_}
 use native.Mathlib.Omega.{arith}
 use lib.Dec.{eqb, leb, ltb}
-use lib.IntN.{ℤ, pos, negsuc, negℤ, natAbs}
+use lib.IntN.{ℤ, pos, negsuc, natAbs}
 use lib.Signed.{leZ}
-use lib.ListN.{length, getD, take, drop, length-drop}
+use lib.ListN.{length, drop, length-drop}
 use lib.Seq.{length-take-le}
 use borrow.Author.Tests.{eq-eqb, ne-eqb, eqb-true, lt-ltb, leb-true, ltb-true}
 use Rattle.whole.proofs.Bools.{both, either}
-use Rattle.kinds.specs.Answer.{Answer, gives, demand}
+use Rattle.kinds.specs.Answer.{gives}
 use Rattle.kinds.proofs.Answers.{passed, same-value}
-use Rattle.position.specs.Text.{Coordinate, latitude, longitude, places, size, inRange, isLetter, letterOf, digits, number, allDigits, part, degrees, minutes, seconds, point, thousandths, letter, isAngle, inSixties, angle, signed, noZeroSouth, rightKinds, value, rightRanges, read, spelled, text}
+use Rattle.position.specs.Text.{Coordinate, latitude, longitude, places, size, inRange, isLetter, fullStop, letterOf, digits, number, allDigits, part, degrees, minutes, seconds, point, thousandths, letter, isAngle, inSixties, angle, signed, noZeroSouth, rightKinds, value, rightRanges, read, spelled, text}
 use Rattle.position.proofs.Bytes.{by-bytes}
 use Rattle.position.proofs.Digits.{all-digits, number-of, digits-of, number-below}
 
 -- ---- the form: degrees, minutes, seconds, thousandths and a letter, each in its digits
 abbrev pub formed : Coordinate → ℕ → ℕ → ℕ → ℕ → ℕ → List ℕ
-formed k d m s f b = digits (places k) d ++ digits 2 m ++ digits 2 s ++ 46 ∷ digits 3 f ++ b ∷ []
+formed k d m s f b = digits (places k) d ++ digits 2 m ++ digits 2 s ++ fullStop ∷ digits 3 f ++ b ∷ []
 
 -- its parts
 record Parts (k : Coordinate) (t : List ℕ) (d m s f b : ℕ) : Type 0 where

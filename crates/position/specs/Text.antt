@@ -1,6 +1,6 @@
 -- Document 01, 'Positions': a position as text. A latitude is `ddmmss.sssN` or `S`, a longitude `dddmmss.sssE`; what holds of
 -- both is said once.
-use mathlib.Core.Bool.{Bool, true, false, _&&_, _||_, not, cond}
+use mathlib.Core.Bool.{Bool, true, _&&_, _||_, not, cond}
 use mathlib.Core.List.{List, [], _∷_, _++_}
 use Prim.Native.Nat.{ℕ, zero, suc, _+_, _-_, _*_, _/_, _%_, _^_}
 use lib.Dec.{eqb, leb, ltb}
@@ -13,6 +13,19 @@ pub data Coordinate : Type 0 where
   latitude : Coordinate
   longitude : Coordinate
 
+-- ---- bytes
+abbrev pub letterN : ℕ
+letterN = 78
+
+abbrev pub letterS : ℕ
+letterS = 83
+
+abbrev pub letterE : ℕ
+letterE = 69
+
+abbrev pub fullStop : ℕ
+fullStop = 46
+
 -- ---- where the two differ
 -- how many digits its degrees have
 abbrev pub places : Coordinate → ℕ
@@ -23,18 +36,17 @@ abbrev pub inRange : Coordinate → ℤ → Bool
 inRange latitude x = isLatitude x
 inRange longitude x = isLongitude x
 
--- N or S; E
 abbrev pub isLetter : Coordinate → ℕ → Bool
-isLetter latitude b = eqb b 78 || eqb b 83
-isLetter longitude b = eqb b 69
+isLetter latitude b = eqb b letterN || eqb b letterS
+isLetter longitude b = eqb b letterE
 
 -- zero is written with N
 abbrev pub letterOf : Coordinate → ℤ → ℕ
-letterOf latitude (pos m) = 78
-letterOf latitude (negsuc m) = 83
-letterOf longitude x = 69
+letterOf latitude (pos m) = letterN
+letterOf latitude (negsuc m) = letterS
+letterOf longitude x = letterE
 
--- ---- digits
+-- ---- digits: 0 to 9 are the bytes 48 to 57
 abbrev pub isDigit : ℕ → Bool
 isDigit b = leb 48 b && leb b 57
 
@@ -84,7 +96,7 @@ letter k t = getD t (places k + 8) 0
 -- ---- reading
 -- the bytes before the letter are digits and a point
 unfoldable pub isAngle : Coordinate → List ℕ → Bool
-isAngle k t = allDigits (degrees k t) && allDigits (minutes k t) && allDigits (seconds k t) && eqb (point k t) 46 && allDigits (thousandths k t)
+isAngle k t = allDigits (degrees k t) && allDigits (minutes k t) && allDigits (seconds k t) && eqb (point k t) fullStop && allDigits (thousandths k t)
 
 -- minutes and seconds are below 60
 unfoldable pub inSixties : Coordinate → List ℕ → Bool
@@ -96,11 +108,11 @@ angle k t = number (degrees k t) * 3600000 + number (minutes k t) * 60000 + numb
 
 -- S stands for a number below zero
 abbrev pub signed : ℕ → ℕ → ℤ
-signed b m = cond (eqb b 83) (negℤ (pos m)) (pos m)
+signed b m = cond (eqb b letterS) (negℤ (pos m)) (pos m)
 
 -- and not for zero
 abbrev pub noZeroSouth : ℕ → ℕ → Bool
-noZeroSouth b m = not (eqb b 83 && eqb m 0)
+noZeroSouth b m = not (eqb b letterS && eqb m 0)
 
 -- every byte is of its kind
 abbrev pub rightKinds : Coordinate → List ℕ → Bool
@@ -120,7 +132,7 @@ read k t = demand (eqb (length t) (size k)) 1 (demand (rightKinds k t) 2 (demand
 -- ---- writing
 -- m ms, with a letter
 unfoldable pub spelled : Coordinate → ℕ → ℕ → List ℕ
-spelled k m b = digits (places k) (m / 1000 / 60 / 60) ++ digits 2 (m / 1000 / 60 % 60) ++ digits 2 (m / 1000 % 60) ++ 46 ∷ digits 3 (m % 1000) ++ b ∷ []
+spelled k m b = digits (places k) (m / 1000 / 60 / 60) ++ digits 2 (m / 1000 / 60 % 60) ++ digits 2 (m / 1000 % 60) ++ fullStop ∷ digits 3 (m % 1000) ++ b ∷ []
 
 abbrev pub text : Coordinate → ℤ → List ℕ
 text k x = spelled k (natAbs x) (letterOf k x)

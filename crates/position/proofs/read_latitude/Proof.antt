@@ -4,10 +4,9 @@ use mathlib.Core.List.{List}
 use Prim.Native.Nat.{ℕ, _<_, _^_}
 use native.Mathlib.Omega.{arith}
 use borrow.Author.Needs.{needs}
-use lib.IntN.{ℤ, pos, negℤ}
+use lib.IntN.{ℤ, pos}
 use mir.Syntax.{w64}
 use mir.Val.{hbits}
-use Rattle.kinds.specs.Answer.{Answer}
 use Rattle.kinds.specs.Kinds.{isLatitude, tested}
 use Rattle.whole.proofs.Words.{Holds, from-unsigned, negated, negated-asks, neg-fits}
 use Rattle.position.specs.Text.{latitude, letter, signed, read}

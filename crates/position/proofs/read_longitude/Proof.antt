@@ -1,16 +1,16 @@
 -- `position::read_longitude` meets its contract: each return answers what the tests before it leave. Assumes nothing.
 use mathlib.Core.Path.{_≡_, refl, sym, ap, _∙_}
-use mathlib.Core.Bool.{Bool, true, false, _&&_, not}
+use mathlib.Core.Bool.{_&&_, not}
 use mathlib.Core.List.{List}
 use Prim.Native.Nat.{ℕ, _+_, _*_, _<_, _^_}
 use native.Mathlib.Omega.{arith}
 use borrow.Author.Needs.{needs}
-use lib.IntN.{ℤ, pos}
+use lib.IntN.{ℤ}
 use lib.ListN.{length}
 use mir.Syntax.{w64}
 use mir.Val.{hbits}
 use Rattle.kinds.specs.Kinds.{isLongitude, tested}
-use Rattle.whole.proofs.Words.{Holds, from-unsigned}
+use Rattle.whole.proofs.Words.{from-unsigned}
 use Rattle.position.specs.Text.{longitude, letter, isAngle, inSixties, angle}
 use Rattle.position.proofs.Bytes.{longitude-is-angle, longitude-in-sixties, longitude-angle}
 use Rattle.position.proofs.Reading.{east, wrong-length, wrong-kind, wrong-range, constructed}

@@ -8,7 +8,7 @@ use lib.IntN.{ℤ, natAbs}
 use lib.ListN.{take, drop}
 use lib.Signed.{ltZ}
 use Rattle.whole.proofs.Signs.{below-zero, from-zero}
-use Rattle.whole.proofs.Words.{Holds, of, zero-is, tested as word-test}
+use Rattle.whole.proofs.Words.{of, zero-is, tested as word-test}
 use Rattle.kinds.specs.Cases.{localLatitude}
 use Rattle.kinds.specs.Kinds.{isLatitude, tested}
 use Rattle.position.specs.Text.{latitude, letterOf, spelled, text}

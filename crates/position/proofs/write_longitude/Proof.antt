@@ -2,7 +2,7 @@
 use mathlib.Core.Path.{_≡_, sym, ap, _∙_}
 use borrow.Author.Needs.{needs}
 use lib.IntN.{ℤ, natAbs}
-use Rattle.whole.proofs.Words.{Holds, of}
+use Rattle.whole.proofs.Words.{of}
 use Rattle.kinds.specs.Cases.{localLongitude}
 use Rattle.kinds.specs.Kinds.{isLongitude, tested}
 use Rattle.position.specs.Text.{longitude, spelled, text}

@@ -23,7 +23,7 @@ loop-holds : tie.Need-loop-holds Inv-loop μ-loop
 loop-holds c = search needs
 
 slice-aggregate-latitude : tie.Need-slice-aggregate-latitude Inv-loop μ-loop
-slice-aggregate-latitude c = 
+slice-aggregate-latitude c =
     let s = c .before .before .before .before .before .before in
     sym (length-take-le (c .before .before .loop .n) (s .args .text .now) (omega (arith, c .before .loop-test .taken, s .pre)))
 
@@ -31,7 +31,7 @@ latitude-requires : tie.Need-latitude-requires Inv-loop μ-loop
 latitude-requires c κs = search needs
 
 slice-aggregate-longitude : tie.Need-slice-aggregate-longitude Inv-loop μ-loop
-slice-aggregate-longitude c = 
+slice-aggregate-longitude c =
     let t = c .before .before .before in
     let s = t .before .before .before .before .before in
     sym (length-take-le (t .before .loop .n) (s .args .text .now) (omega (arith, t .loop-test .taken, s .pre)))
