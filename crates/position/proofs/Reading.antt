@@ -10,18 +10,18 @@ use borrow.Author.Tests.{eq-eqb, ne-eqb, eqb-true, not-true, not-false}
 use Rattle.whole.proofs.Bools.{both}
 use Rattle.kinds.specs.Answer.{refused}
 use Rattle.kinds.specs.Kinds.{tested}
-use Rattle.position.specs.Text.{Coordinate, longitude, size, letter, isLetter, isAngle, inSixties, angle, inRange, signed, noZeroSouth, read}
+use Rattle.position.specs.Text.{Coordinate, longitude, letterS, letterE, size, letter, isLetter, isAngle, inSixties, angle, inRange, signed, noZeroSouth, read}
 
 -- ---- the letter
-pub south : {b : ℕ} (m : ℕ) → b ≡ 83 → signed b m ≡ negℤ (pos m)
-south {b} m h = simp (eq-eqb b 83 h)
+pub south : {b : ℕ} (m : ℕ) → b ≡ letterS → signed b m ≡ negℤ (pos m)
+south {b} m h = simp (eq-eqb b letterS h)
 
-pub not-south : {b : ℕ} (m : ℕ) → (b ≡ 83 → ⊥) → signed b m ≡ pos m
-not-south {b} m h = simp (ne-eqb b 83 h)
+pub not-south : {b : ℕ} (m : ℕ) → (b ≡ letterS → ⊥) → signed b m ≡ pos m
+not-south {b} m h = simp (ne-eqb b letterS h)
 
 -- E says nothing of the sign
 pub east : (a s : Bool) (b m : ℕ) → not (a && isLetter longitude b) ≡ false → ((s && noZeroSouth b m) ≡ s) × (signed b m ≡ pos m)
-east a s b m h = subst (λ (b : ℕ). ((s && noZeroSouth b m) ≡ s) × (signed b m ≡ pos m)) (sym (eqb-true b 69 (both a (eqb b 69) (not-false _ h) .1))) (and-true s, refl)
+east a s b m h = subst (λ (b : ℕ). ((s && noZeroSouth b m) ≡ s) × (signed b m ≡ pos m)) (sym (eqb-true b letterE (both a (eqb b letterE) (not-false _ h) .1))) (and-true s, refl)
 
 -- ---- both texts
 module _ (k : Coordinate) (t : List ℕ) where

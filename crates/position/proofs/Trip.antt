@@ -14,7 +14,7 @@ use borrow.Author.Tests.{eq-eqb, ne-eqb, eqb-true, lt-ltb, leb-true, ltb-true}
 use Rattle.whole.proofs.Bools.{both, either}
 use Rattle.kinds.specs.Answer.{gives}
 use Rattle.kinds.proofs.Answers.{passed, same-value}
-use Rattle.position.specs.Text.{Coordinate, latitude, longitude, places, size, inRange, isLetter, fullStop, letterOf, digits, number, allDigits, part, degrees, minutes, seconds, point, thousandths, letter, isAngle, inSixties, angle, signed, noZeroSouth, rightKinds, value, rightRanges, read, spelled, text}
+use Rattle.position.specs.Text.{Coordinate, latitude, longitude, letterN, letterS, letterE, fullStop, places, size, inRange, isLetter, letterOf, digits, number, allDigits, part, degrees, minutes, seconds, point, thousandths, letter, isAngle, inSixties, angle, signed, noZeroSouth, rightKinds, value, rightRanges, read, spelled, text}
 use Rattle.position.proofs.Bytes.{by-bytes}
 use Rattle.position.proofs.Digits.{all-digits, number-of, digits-of, number-below}
 
@@ -28,7 +28,7 @@ record Parts (k : Coordinate) (t : List ℕ) (d m s f b : ℕ) : Type 0 where
   of-degrees : degrees k t ≡ digits (places k) d
   of-minutes : minutes k t ≡ digits 2 m
   of-seconds : seconds k t ≡ digits 2 s
-  of-point : point k t ≡ 46
+  of-point : point k t ≡ fullStop
   of-thousandths : thousandths k t ≡ digits 3 f
   of-letter : letter k t ≡ b
 
@@ -106,14 +106,14 @@ record Digits (k : Coordinate) (t : List ℕ) : Type 0 where
   of-degrees : allDigits (degrees k t) ≡ true
   of-minutes : allDigits (minutes k t) ≡ true
   of-seconds : allDigits (seconds k t) ≡ true
-  of-point : eqb (point k t) 46 ≡ true
+  of-point : eqb (point k t) fullStop ≡ true
   of-thousandths : allDigits (thousandths k t) ≡ true
 
 are-digits : (k : Coordinate) (t : List ℕ) → isAngle k t ≡ true → Digits k t
 unfolding isAngle
 are-digits k t h =
-    let one = both (allDigits (degrees k t) && allDigits (minutes k t) && allDigits (seconds k t) && eqb (point k t) 46) (allDigits (thousandths k t)) h in
-    let two = both (allDigits (degrees k t) && allDigits (minutes k t) && allDigits (seconds k t)) (eqb (point k t) 46) (one .0) in
+    let one = both (allDigits (degrees k t) && allDigits (minutes k t) && allDigits (seconds k t) && eqb (point k t) fullStop) (allDigits (thousandths k t)) h in
+    let two = both (allDigits (degrees k t) && allDigits (minutes k t) && allDigits (seconds k t)) (eqb (point k t) fullStop) (one .0) in
     let three = both (allDigits (degrees k t) && allDigits (minutes k t)) (allDigits (seconds k t)) (two .0) in
     let four = both (allDigits (degrees k t)) (allDigits (minutes k t)) (three .0) in
     record { of-degrees = four .0; of-minutes = four .1; of-seconds = three .1; of-point = two .1; of-thousandths = one .1 }
@@ -137,7 +137,7 @@ module _ (k : Coordinate) (t : List ℕ) {x : ℤ} (h : read k t ≡ gives x) wh
   pub has-form : formed k (number (degrees k t)) (number (minutes k t)) (number (seconds k t)) (number (thousandths k t)) (letter k t) ≡ t
   has-form =
       let l = tests .long in
-      simp (digits-part 0 (places k) t (omega arith) (all .of-degrees), digits-part (places k) 2 t (omega arith) (all .of-minutes), digits-part (places k + 2) 2 t (omega arith) (all .of-seconds), digits-part (places k + 5) 3 t (omega arith) (all .of-thousandths), ← eqb-true (point k t) 46 (all .of-point))
+      simp (digits-part 0 (places k) t (omega arith) (all .of-degrees), digits-part (places k) 2 t (omega arith) (all .of-minutes), digits-part (places k + 2) 2 t (omega arith) (all .of-seconds), digits-part (places k + 5) 3 t (omega arith) (all .of-thousandths), ← eqb-true (point k t) fullStop (all .of-point))
       (rejoined k t l)
 
   pub degrees-digits : number (degrees k t) < 10 ^ places k
@@ -193,17 +193,17 @@ letter-of longitude (negsuc n) h = absurd (false≢true h)
 -- and a letter after ms is that of the number they make
 pub letter-back : (k : Coordinate) (b n : ℕ) → isLetter k b ≡ true → noZeroSouth b n ≡ true → (letterOf k (signed b n) ≡ b) × (natAbs (signed b n) ≡ n)
 letter-back latitude b n l z =
-    either (eqb b 78) (eqb b 83) l
-    (λ e. subst Back (sym (eqb-true b 78 e)) (refl, refl))
-    (λ e. let s = eqb-true b 83 e in subst Back (sym s) (south n (subst (λ (b : ℕ). noZeroSouth b n ≡ true) s z)))
+    either (eqb b letterN) (eqb b letterS) l
+    (λ e. subst Back (sym (eqb-true b letterN e)) (refl, refl))
+    (λ e. let s = eqb-true b letterS e in subst Back (sym s) (south n (subst (λ (b : ℕ). noZeroSouth b n ≡ true) s z)))
   where
     Back : ℕ → Type 0
     Back b = (letterOf latitude (signed b n) ≡ b) × (natAbs (signed b n) ≡ n)
 
-    south : (n : ℕ) → noZeroSouth 83 n ≡ true → (letterOf latitude (signed 83 n) ≡ 83) × (natAbs (signed 83 n) ≡ n)
+    south : (n : ℕ) → noZeroSouth letterS n ≡ true → (letterOf latitude (signed letterS n) ≡ letterS) × (natAbs (signed letterS n) ≡ n)
     south zero z = absurd (false≢true z)
     south (suc n) z = (refl, refl)
-letter-back longitude b n l z = subst (λ (b : ℕ). (69 ≡ b) × (natAbs (signed b n) ≡ n)) (sym (eqb-true b 69 l)) (refl, refl)
+letter-back longitude b n l z = subst (λ (b : ℕ). (letterE ≡ b) × (natAbs (signed b n) ≡ n)) (sym (eqb-true b letterE l)) (refl, refl)
 
 -- the digits of the degrees are enough
 pub degrees-below : (k : Coordinate) (x : ℤ) → inRange k x ≡ true → natAbs x / 1000 / 60 / 60 < 10 ^ places k

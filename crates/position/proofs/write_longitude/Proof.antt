@@ -5,7 +5,7 @@ use lib.IntN.{ℤ, natAbs}
 use Rattle.whole.proofs.Words.{of}
 use Rattle.kinds.specs.Cases.{localLongitude}
 use Rattle.kinds.specs.Kinds.{isLongitude, tested}
-use Rattle.position.specs.Text.{longitude, spelled, text}
+use Rattle.position.specs.Text.{longitude, letterE, spelled, text}
 use Rattle.position.proofs.Writing.{out-of-range, in-range}
 use Rattle.position.proofs.write_longitude.Statement.{statement}
 use Rattle.position.proofs.write_longitude.Tie as tie
@@ -45,7 +45,7 @@ line-is : (c : tie.After-spelled) → c .spelled .result ≡ text longitude (c .
 line-is c =
     let s = c .before .before .before .before .before .before in
     let m : c .before .size .result ≡ natAbs (s .args .ms) = c .before .size .ensures ∙ ap natAbs (of (s .fits .ms) .reads) in
-    c .spelled .ensures ∙ (λ i. spelled longitude (m i) 69)
+    c .spelled .ensures ∙ (λ i. spelled longitude (m i) letterE)
 
 returns-2 : tie.Need-returns-2
 returns-2 c =
