@@ -7,9 +7,10 @@ use Prim.Native.Nat.{ℕ, _+_, _*_, _<_, _≤_, _^_}
 use native.Mathlib.Omega.{arith}
 use lib.Dec.{leb}
 use lib.IntN.{ℤ, pos}
-use lib.ListN.{length}
+use lib.ListN.{length, take, drop}
+use lib.Seq.{take-at}
 use borrow.Author.Tests.{le-leb}
-use Rattle.kinds.specs.Answer.{gives, refused, placed}
+use Rattle.kinds.specs.Answer.{Answer, gives, refused, placed, lent}
 use Rattle.kinds.proofs.Answers.{same-value, passed}
 use Rattle.position.specs.Text.{Coordinate, latitude, places, size, inRange, isLetter, fullStop, digits, digitOf, allDigits, number, degrees, minutes, seconds, thousandths, letter, isAngle, inSixties, angle, signed, noZeroSouth, rightKinds, rightRanges, read, text, write}
 use Rattle.position.proofs.Trip as trip
@@ -26,13 +27,25 @@ pub text-size : (k : Coordinate) (x : ℤ) → length (text k x) ≡ size k
 text-size k x = trip.text-size k x
 
 -- ---- 'so each number has one text'
--- what was written for a number is read as that number
-pub written-reads : (k : Coordinate) (x : ℤ) (room : ℕ) {t : List ℕ} → write k x room ≡ gives t → read k t ≡ gives x
+-- the text of every number in range is read as that number
+pub text-reads : (k : Coordinate) (x : ℤ) → inRange k x ≡ true → read k (text k x) ≡ gives x
+text-reads k x h = trip.written-reads k x h
+
+-- what was written for a number is its text
+pub written-is : (k : Coordinate) (x : ℤ) (room : ℕ) {t : List ℕ} → write k x room ≡ gives t → (inRange k x ≡ true) × (t ≡ text k x)
 unfolding write
-written-reads k x room h =
+written-is k x room h =
     let one = passed (inRange k x) 3 (placed (text k x) room) h in
     let two = passed (leb (length (text k x)) room) 7 (gives (text k x)) (one .1) in
-    ap (read k) (sym (same-value (two .1))) ∙ trip.written-reads k x (one .0)
+    (one .0, sym (same-value (two .1)))
+
+-- so it is read as that number, out of the lent buffer
+pub written-reads : (k : Coordinate) (x : ℤ) (out : List ℕ) {t : List ℕ} → write k x (length out) ≡ gives t → read k (take (size k) (lent (write k x (length out)) out)) ≡ gives x
+written-reads k x out {t} h =
+    let w = written-is k x (length out) h in
+    ap (λ (a : Answer (List ℕ)). read k (take (size k) (lent a out))) h
+    ∙ ap (read k) (take-at t (drop (length t) out) (size k) (ap length (w .1) ∙ text-size k x) ∙ w .1)
+    ∙ text-reads k x (w .0)
 
 -- what was read is written as the same bytes
 pub read-writes : (k : Coordinate) (t : List ℕ) {x : ℤ} → read k t ≡ gives x → (room : ℕ) → size k ≤ room → write k x room ≡ gives t
