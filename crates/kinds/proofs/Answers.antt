@@ -4,7 +4,7 @@ use mathlib.Core.Bool.{Bool, true, false, cond}
 use Prim.Native.Nat.{ℕ}
 use native.Mathlib.Omega.{arith}
 use lib.Dec.{eqb}
-use Rattle.kinds.specs.Answer.{Answer, gives, refused, demand, numberOf}
+use Rattle.kinds.specs.Answer.{Answer, gives, refused, provided, numberOf}
 use Rattle.kinds.specs.declared.Refusal.{Refusal}
 use Rattle.kinds.specs.declared.Refusal.the-variants.{Length, Kind, Range, Code, Family, Area, Room, Foreign, Sheet}
 
@@ -16,12 +16,12 @@ module _ {A : Type 0} where
   same-value h = cc
 
   -- a value was given: the test held
-  pub passed : (b : Bool) (n : ℕ) (a : Answer A) {y : A} → demand b n a ≡ gives y → (b ≡ true) × (a ≡ gives y)
+  pub passed : (b : Bool) (n : ℕ) (a : Answer A) {y : A} → provided b n a ≡ gives y → (b ≡ true) × (a ≡ gives y)
   passed true n a h = (refl, h)
   passed false n a h = absurd (not-both (sym h))
 
   -- a value that was tested was refused: the test failed, and the number is the test's
-  pub failed : (b : Bool) (n : ℕ) (x : A) {m : ℕ} → demand b n (gives x) ≡ refused m → (b ≡ false) × (m ≡ n)
+  pub failed : (b : Bool) (n : ℕ) (x : A) {m : ℕ} → provided b n (gives x) ≡ refused m → (b ≡ false) × (m ≡ n)
   failed true n x h = absurd (not-both h)
   failed false n x h = (refl, cc)
 
@@ -29,12 +29,12 @@ module _ {A : Type 0} where
   same-number h = cc
 
   -- the test's own number, which nothing behind it gives: the test failed
-  pub own : (b : Bool) (n : ℕ) (a : Answer A) → (a ≡ refused n → ⊥) → demand b n a ≡ refused n → b ≡ false
+  pub own : (b : Bool) (n : ℕ) (a : Answer A) → (a ≡ refused n → ⊥) → provided b n a ≡ refused n → b ≡ false
   own true n a h e = absurd (h e)
   own false n a h e = refl
 
   -- another's number: the test held, and what is behind it gave the number
-  pub behind : (b : Bool) (n m : ℕ) (a : Answer A) → (n ≡ m → ⊥) → demand b n a ≡ refused m → (b ≡ true) × (a ≡ refused m)
+  pub behind : (b : Bool) (n m : ℕ) (a : Answer A) → (n ≡ m → ⊥) → provided b n a ≡ refused m → (b ≡ true) × (a ≡ refused m)
   behind true n m a h e = (refl, e)
   behind false n m a h e = absurd (h (same-number e))
 

@@ -13,9 +13,9 @@ pub data Answer (A : Type 0) : Type 0 where
   refused : ℕ → Answer A
 
 -- the answer where the test holds, and the refusal n where it does not
-abbrev pub demand : {A : Type 0} → Bool → ℕ → Answer A → Answer A
-demand true n a = a
-demand false n a = refused n
+abbrev pub provided : {A : Type 0} → Bool → ℕ → Answer A → Answer A
+provided true n a = a
+provided false n a = refused n
 
 -- the number of each refusal
 abbrev pub numberOf : Refusal → ℕ
@@ -32,7 +32,7 @@ numberOf Sheet = 9
 -- ---- a call that writes: its bytes, or the number of the refusal
 -- the bytes, for a lent buffer that has room for so many: 7 where it is too short
 abbrev pub placed : List ℕ → ℕ → Answer (List ℕ)
-placed bytes room = demand (leb (length bytes) room) 7 (gives bytes)
+placed bytes room = provided (leb (length bytes) room) 7 (gives bytes)
 
 -- how many bytes it says that it wrote
 abbrev pub counted : Answer (List ℕ) → Answer ℕ

@@ -12,19 +12,19 @@ use lib.Seq.{take-at}
 use borrow.Author.Tests.{le-leb}
 use Rattle.kinds.specs.Answer.{Answer, gives, refused, placed, lent}
 use Rattle.kinds.proofs.Answers.{same-value, passed}
-use Rattle.position.specs.Text.{Coordinate, latitude, places, size, inRange, isLetter, fullStop, digits, digitOf, allDigits, number, degrees, minutes, seconds, thousandths, letter, isAngle, inSixties, angle, signed, noZeroSouth, rightKinds, rightRanges, read, text, write}
+use Rattle.position.specs.Text.{Coordinate, latitude, places, textLength, inRange, isLetter, formed, ms, digitOf, allDigits, number, degrees, minutes, seconds, thousandths, letter, isAngle, inSixties, angle, signed, noZeroSouth, rightKinds, rightRanges, read, text, write}
 use Rattle.position.proofs.Trip as trip
 use Rattle.position.proofs.Refusals as refusals
 
 -- ---- 'Writing needs 11 or 12 bytes of a lent buffer'
 -- a number in range is written where there is room for its text
-pub writes : (k : Coordinate) (x : ℤ) (room : ℕ) → inRange k x ≡ true → size k ≤ room → write k x room ≡ gives (text k x)
+pub writes : (k : Coordinate) (x : ℤ) (room : ℕ) → inRange k x ≡ true → textLength k ≤ room → write k x room ≡ gives (text k x)
 unfolding write
-writes k x room h r = simp (h, le-leb (length (text k x)) room (omega (arith, trip.text-size k x)))
+writes k x room h r = simp (h, le-leb (length (text k x)) room (omega (arith, trip.text-length k x)))
 
 -- which is 11 bytes for a latitude and 12 for a longitude
-pub text-size : (k : Coordinate) (x : ℤ) → length (text k x) ≡ size k
-text-size k x = trip.text-size k x
+pub text-length : (k : Coordinate) (x : ℤ) → length (text k x) ≡ textLength k
+text-length k x = trip.text-length k x
 
 -- ---- 'so each number has one text'
 -- the text of every number in range is read as that number
@@ -40,15 +40,15 @@ written-is k x room h =
     (one .0, sym (same-value (two .1)))
 
 -- so it is read as that number, out of the lent buffer
-pub written-reads : (k : Coordinate) (x : ℤ) (out : List ℕ) {t : List ℕ} → write k x (length out) ≡ gives t → read k (take (size k) (lent (write k x (length out)) out)) ≡ gives x
+pub written-reads : (k : Coordinate) (x : ℤ) (out : List ℕ) {t : List ℕ} → write k x (length out) ≡ gives t → read k (take (textLength k) (lent (write k x (length out)) out)) ≡ gives x
 written-reads k x out {t} h =
     let w = written-is k x (length out) h in
-    ap (λ (a : Answer (List ℕ)). read k (take (size k) (lent a out))) h
-    ∙ ap (read k) (take-at t (drop (length t) out) (size k) (ap length (w .1) ∙ text-size k x) ∙ w .1)
+    ap (λ (a : Answer (List ℕ)). read k (take (textLength k) (lent a out))) h
+    ∙ ap (read k) (take-at t (drop (length t) out) (textLength k) (ap length (w .1) ∙ text-length k x) ∙ w .1)
     ∙ text-reads k x (w .0)
 
 -- what was read is written as the same bytes
-pub read-writes : (k : Coordinate) (t : List ℕ) {x : ℤ} → read k t ≡ gives x → (room : ℕ) → size k ≤ room → write k x room ≡ gives t
+pub read-writes : (k : Coordinate) (t : List ℕ) {x : ℤ} → read k t ≡ gives x → (room : ℕ) → textLength k ≤ room → write k x room ≡ gives t
 read-writes k t h room r = writes k _ room (trip.in-range k t h) r ∙ ap gives (trip.read-writes k t h)
 
 -- no number has two texts
@@ -63,14 +63,14 @@ pub record TextOf (k : Coordinate) (t : List ℕ) (x : ℤ) : Type 0 where
   pub s : ℕ
   pub f : ℕ
   pub b : ℕ
-  pub form : t ≡ digits (places k) d ++ digits 2 m ++ digits 2 s ++ fullStop ∷ digits 3 f ++ b ∷ []
+  pub form : t ≡ formed k d m s f b
   pub d-digits : d < 10 ^ places k
   pub m-below : m < 60
   pub s-below : s < 60
   pub f-digits : f < 1000
   pub b-letter : isLetter k b ≡ true
-  pub not-zero-south : noZeroSouth b (d * 3600000 + m * 60000 + s * 1000 + f) ≡ true
-  pub value : signed b (d * 3600000 + m * 60000 + s * 1000 + f) ≡ x
+  pub not-zero-south : noZeroSouth b (ms d m s f) ≡ true
+  pub value : signed b (ms d m s f) ≡ x
   pub range : inRange k x ≡ true
 
 -- a text is accepted, as x, exactly when it is the text of x
@@ -103,20 +103,20 @@ accepted k t x = (of-reading, of-form)
         ∙ ap gives (f .value)
 
 -- ---- 'For a position text: 1, 2, 3': when each number is given
-pub given-1 : (k : Coordinate) (t : List ℕ) → (read k t ≡ refused 1) ↔ (length t ≡ size k → ⊥)
+pub given-1 : (k : Coordinate) (t : List ℕ) → (read k t ≡ refused 1) ↔ (length t ≡ textLength k → ⊥)
 given-1 k t = refusals.given-1 k t
 
-pub given-2 : (k : Coordinate) (t : List ℕ) → (read k t ≡ refused 2) ↔ ((length t ≡ size k) × (rightKinds k t ≡ false))
+pub given-2 : (k : Coordinate) (t : List ℕ) → (read k t ≡ refused 2) ↔ ((length t ≡ textLength k) × (rightKinds k t ≡ false))
 given-2 k t = refusals.given-2 k t
 
-pub given-3 : (k : Coordinate) (t : List ℕ) → (read k t ≡ refused 3) ↔ ((length t ≡ size k) × ((rightKinds k t ≡ true) × (rightRanges k t ≡ false)))
+pub given-3 : (k : Coordinate) (t : List ℕ) → (read k t ≡ refused 3) ↔ ((length t ≡ textLength k) × ((rightKinds k t ≡ true) × (rightRanges k t ≡ false)))
 given-3 k t = refusals.given-3 k t
 
 -- ---- 'For writing one: 3, 7'
 pub written-3 : (k : Coordinate) (x : ℤ) (room : ℕ) → (write k x room ≡ refused 3) ↔ (inRange k x ≡ false)
 written-3 k x room = refusals.written-3 k x room
 
-pub written-7 : (k : Coordinate) (x : ℤ) (room : ℕ) → (write k x room ≡ refused 7) ↔ ((inRange k x ≡ true) × (room < size k))
+pub written-7 : (k : Coordinate) (x : ℤ) (room : ℕ) → (write k x room ≡ refused 7) ↔ ((inRange k x ≡ true) × (room < textLength k))
 written-7 k x room = refusals.written-7 k x room
 
 -- ---- 'Points to hold against the page': two of the twelve

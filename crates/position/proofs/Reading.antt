@@ -10,7 +10,7 @@ use borrow.Author.Tests.{eq-eqb, ne-eqb, eqb-true, not-true, not-false}
 use Rattle.whole.proofs.Bools.{both}
 use Rattle.kinds.specs.Answer.{refused}
 use Rattle.kinds.specs.Kinds.{tested}
-use Rattle.position.specs.Text.{Coordinate, longitude, letterS, letterE, size, letter, isLetter, isAngle, inSixties, angle, inRange, signed, noZeroSouth, read}
+use Rattle.position.specs.Text.{Coordinate, longitude, letterS, letterE, textLength, letter, isLetter, isAngle, inSixties, angle, inRange, signed, noZeroSouth, read}
 
 -- ---- the letter
 pub south : {b : ℕ} (m : ℕ) → b ≡ letterS → signed b m ≡ negℤ (pos m)
@@ -25,22 +25,22 @@ east a s b m h = subst (λ (b : ℕ). ((s && noZeroSouth b m) ≡ s) × (signed 
 
 -- ---- both texts
 module _ (k : Coordinate) (t : List ℕ) where
-  pub wrong-length : (length t ≡ size k → ⊥) → refused 1 ≡ read k t
+  pub wrong-length : (length t ≡ textLength k → ⊥) → refused 1 ≡ read k t
   unfolding read
-  wrong-length h = simp (ne-eqb (length t) (size k) h)
+  wrong-length h = simp (ne-eqb (length t) (textLength k) h)
 
   -- a and s are what the code's functions answer
-  module _ (long : length t ≡ size k) {a : Bool} (angles : a ≡ isAngle k t) where
+  module _ (long : length t ≡ textLength k) {a : Bool} (angles : a ≡ isAngle k t) where
     pub wrong-kind : not (a && isLetter k (letter k t)) ≡ true → refused 2 ≡ read k t
     unfolding read
-    wrong-kind h = simp (eq-eqb (length t) (size k) long, ← angles, not-true (a && isLetter k (letter k t)) h)
+    wrong-kind h = simp (eq-eqb (length t) (textLength k) long, ← angles, not-true (a && isLetter k (letter k t)) h)
 
     module _ (right : not (a && isLetter k (letter k t)) ≡ false) {m : ℕ} (ms : m ≡ angle k t) {s : Bool} (sixties : s ≡ inSixties k t) where
       pub wrong-range : not (s && noZeroSouth (letter k t) m) ≡ true → refused 3 ≡ read k t
       unfolding read
-      wrong-range h = simp (eq-eqb (length t) (size k) long, ← angles, not-false (a && isLetter k (letter k t)) right, ← ms, ← sixties, not-true (s && noZeroSouth (letter k t) m) h)
+      wrong-range h = simp (eq-eqb (length t) (textLength k) long, ← angles, not-false (a && isLetter k (letter k t)) right, ← ms, ← sixties, not-true (s && noZeroSouth (letter k t) m) h)
 
       -- the rest is for the constructor to test
       pub constructed : not (s && noZeroSouth (letter k t) m) ≡ false → tested (inRange k (signed (letter k t) m)) (signed (letter k t) m) ≡ read k t
       unfolding read
-      constructed h = simp (eq-eqb (length t) (size k) long, ← angles, not-false (a && isLetter k (letter k t)) right, ← ms, ← sixties, not-false (s && noZeroSouth (letter k t) m) h)
+      constructed h = simp (eq-eqb (length t) (textLength k) long, ← angles, not-false (a && isLetter k (letter k t)) right, ← ms, ← sixties, not-false (s && noZeroSouth (letter k t) m) h)

@@ -9,22 +9,22 @@ use lib.Dec.{eqb, leb}
 use lib.IntN.{ℤ}
 use lib.ListN.{length}
 use borrow.Author.Tests.{eq-eqb, ne-eqb, eqb-true, eqb-false, lt-leb, leb-false}
-use Rattle.kinds.specs.Answer.{Answer, gives, refused, demand, placed}
+use Rattle.kinds.specs.Answer.{Answer, gives, refused, provided, placed}
 use Rattle.kinds.proofs.Answers.{not-both, own, behind}
-use Rattle.position.specs.Text.{Coordinate, size, inRange, rightKinds, rightRanges, value, read, text, write}
-use Rattle.position.proofs.Trip.{text-size}
+use Rattle.position.specs.Text.{Coordinate, textLength, inRange, rightKinds, rightRanges, value, read, text, write}
+use Rattle.position.proofs.Trip.{text-length}
 
 -- ---- reading
 module _ (k : Coordinate) (t : List ℕ) where
   abbrev long : Bool
-  long = eqb (length t) (size k)
+  long = eqb (length t) (textLength k)
 
   -- what is behind the test of the length, and behind that of the bytes
   abbrev ranged : Answer ℤ
-  ranged = demand (rightRanges k t) 3 (gives (value k t))
+  ranged = provided (rightRanges k t) 3 (gives (value k t))
 
   abbrev kinded : Answer ℤ
-  kinded = demand (rightKinds k t) 2 ranged
+  kinded = provided (rightKinds k t) 2 ranged
 
   ranged-gives : (n : ℕ) → (3 ≡ n → ⊥) → ranged ≡ refused n → ⊥
   ranged-gives n h e = not-both (behind (rightRanges k t) 3 n (gives (value k t)) h e .1)
@@ -32,27 +32,27 @@ module _ (k : Coordinate) (t : List ℕ) where
   kinded-not-1 : kinded ≡ refused 1 → ⊥
   kinded-not-1 e = ranged-gives 1 (λ z. omega arith) (behind (rightKinds k t) 2 1 ranged (λ z. omega arith) e .1)
 
-  pub given-1 : (read k t ≡ refused 1) ↔ (length t ≡ size k → ⊥)
+  pub given-1 : (read k t ≡ refused 1) ↔ (length t ≡ textLength k → ⊥)
   unfolding read
-  given-1 = ((λ h. eqb-false (length t) (size k) (own long 1 kinded kinded-not-1 h)), (λ h. simp (ne-eqb (length t) (size k) h)))
+  given-1 = ((λ h. eqb-false (length t) (textLength k) (own long 1 kinded kinded-not-1 h)), (λ h. simp (ne-eqb (length t) (textLength k) h)))
 
-  pub given-2 : (read k t ≡ refused 2) ↔ ((length t ≡ size k) × (rightKinds k t ≡ false))
+  pub given-2 : (read k t ≡ refused 2) ↔ ((length t ≡ textLength k) × (rightKinds k t ≡ false))
   unfolding read
   given-2 = (
     (λ h.
         let one = behind long 1 2 kinded (λ z. omega arith) h in
-        (eqb-true (length t) (size k) (one .0), own (rightKinds k t) 2 ranged (ranged-gives 2 (λ z. omega arith)) (one .1))),
-    (λ h. simp (eq-eqb (length t) (size k) (h .0), h .1)),
+        (eqb-true (length t) (textLength k) (one .0), own (rightKinds k t) 2 ranged (ranged-gives 2 (λ z. omega arith)) (one .1))),
+    (λ h. simp (eq-eqb (length t) (textLength k) (h .0), h .1)),
   )
 
-  pub given-3 : (read k t ≡ refused 3) ↔ ((length t ≡ size k) × ((rightKinds k t ≡ true) × (rightRanges k t ≡ false)))
+  pub given-3 : (read k t ≡ refused 3) ↔ ((length t ≡ textLength k) × ((rightKinds k t ≡ true) × (rightRanges k t ≡ false)))
   unfolding read
   given-3 = (
     (λ h.
         let one = behind long 1 3 kinded (λ z. omega arith) h in
         let two = behind (rightKinds k t) 2 3 ranged (λ z. omega arith) (one .1) in
-        (eqb-true (length t) (size k) (one .0), (two .0, own (rightRanges k t) 3 (gives (value k t)) not-both (two .1)))),
-    (λ h. simp (eq-eqb (length t) (size k) (h .0), h .1 .0, h .1 .1)),
+        (eqb-true (length t) (textLength k) (one .0), (two .0, own (rightRanges k t) 3 (gives (value k t)) not-both (two .1)))),
+    (λ h. simp (eq-eqb (length t) (textLength k) (h .0), h .1 .0, h .1 .1)),
   )
 
 -- ---- writing
@@ -67,11 +67,11 @@ module _ (k : Coordinate) (x : ℤ) (room : ℕ) where
     (λ h. simp h),
   )
 
-  pub written-7 : (write k x room ≡ refused 7) ↔ ((inRange k x ≡ true) × (room < size k))
+  pub written-7 : (write k x room ≡ refused 7) ↔ ((inRange k x ≡ true) × (room < textLength k))
   unfolding write
   written-7 = (
     (λ h.
         let one = behind (inRange k x) 3 7 (placed (text k x) room) (λ z. omega arith) h in
-        (one .0, omega (arith, text-size k x, leb-false (length (text k x)) room (own fits 7 (gives (text k x)) not-both (one .1))))),
-    (λ h. simp (h .0, lt-leb (length (text k x)) room (omega (arith, text-size k x, h .1)))),
+        (one .0, omega (arith, text-length k x, leb-false (length (text k x)) room (own fits 7 (gives (text k x)) not-both (one .1))))),
+    (λ h. simp (h .0, lt-leb (length (text k x)) room (omega (arith, text-length k x, h .1)))),
   )

@@ -1,7 +1,7 @@
 -- There and back: a text of 01's form is read as its number, and a text that is read has that form. Both texts at once; where
 -- they differ, in the digits of the degrees, the limit and the letters, a law goes by cases. Assumes nothing.
 use mathlib.Core.Path.{_≡_, refl, sym, ap, _∙_, subst}
-use mathlib.Core.Bool.{true, false, _&&_, not, false≢true}
+use mathlib.Core.Bool.{true, _&&_, not, false≢true}
 use mathlib.Core.List.{List, [], _∷_, _++_}
 use Prim.Native.Nat.{ℕ, zero, suc, _+_, _*_, _/_, _%_, _<_, _≤_, _^_}
 use native.Mathlib.Omega.{arith}
@@ -14,17 +14,13 @@ use borrow.Author.Tests.{eq-eqb, ne-eqb, eqb-true, lt-ltb, leb-true, ltb-true}
 use Rattle.whole.proofs.Bools.{both, either}
 use Rattle.kinds.specs.Answer.{gives}
 use Rattle.kinds.proofs.Answers.{passed, same-value}
-use Rattle.position.specs.Text.{Coordinate, latitude, longitude, letterN, letterS, letterE, fullStop, places, size, inRange, isLetter, letterOf, digits, number, allDigits, part, degrees, minutes, seconds, point, thousandths, letter, isAngle, inSixties, angle, signed, noZeroSouth, rightKinds, value, rightRanges, read, spelled, text}
+use Rattle.position.specs.Text.{Coordinate, latitude, longitude, letterN, letterS, letterE, fullStop, places, textLength, inRange, isLetter, letterOf, formed, ms, digits, number, allDigits, part, degrees, minutes, seconds, point, thousandths, letter, isAngle, inSixties, angle, signed, noZeroSouth, rightKinds, value, rightRanges, read, spelled, text}
 use Rattle.position.proofs.Bytes.{by-bytes}
 use Rattle.position.proofs.Digits.{all-digits, number-of, digits-of, number-below}
 
--- ---- the form: degrees, minutes, seconds, thousandths and a letter, each in its digits
-abbrev pub formed : Coordinate → ℕ → ℕ → ℕ → ℕ → ℕ → List ℕ
-formed k d m s f b = digits (places k) d ++ digits 2 m ++ digits 2 s ++ fullStop ∷ digits 3 f ++ b ∷ []
-
--- its parts
+-- ---- the parts of a text of the form
 record Parts (k : Coordinate) (t : List ℕ) (d m s f b : ℕ) : Type 0 where
-  long : length t ≡ size k
+  long : length t ≡ textLength k
   of-degrees : degrees k t ≡ digits (places k) d
   of-minutes : minutes k t ≡ digits 2 m
   of-seconds : seconds k t ≡ digits 2 s
@@ -37,13 +33,9 @@ unfolding digits
 parts latitude d m s f b = record { long = refl; of-degrees = refl; of-minutes = refl; of-seconds = refl; of-point = refl; of-thousandths = refl; of-letter = refl }
 parts longitude d m s f b = record { long = refl; of-degrees = refl; of-minutes = refl; of-seconds = refl; of-point = refl; of-thousandths = refl; of-letter = refl }
 
-pub text-size : (k : Coordinate) (x : ℤ) → length (text k x) ≡ size k
+pub text-length : (k : Coordinate) (x : ℤ) → length (text k x) ≡ textLength k
 unfolding spelled
-text-size k x = parts k _ _ _ _ _ .long
-
--- the ms that they make
-abbrev pub ms : ℕ → ℕ → ℕ → ℕ → ℕ
-ms d m s f = d * 3600000 + m * 60000 + s * 1000 + f
+text-length k x = parts k _ _ _ _ _ .long
 
 -- ---- a text of the form is read
 module _ (k : Coordinate) {d m s f : ℕ} (b : ℕ) (d< : d < 10 ^ places k) (m< : m < 60) (s< : s < 60) (f< : f < 1000) where
@@ -73,16 +65,16 @@ module _ (k : Coordinate) {d m s f : ℕ} (b : ℕ) (d< : d < 10 ^ places k) (m<
 
   pub reads : isLetter k b ≡ true → noZeroSouth b (ms d m s f) ≡ true → inRange k (signed b (ms d m s f)) ≡ true → read k t ≡ gives (signed b (ms d m s f))
   unfolding read
-  reads l z r = simp (eq-eqb (length t) (size k) (p .long), is-angle, p .of-letter, l, in-sixties, angle-is, z, r)
+  reads l z r = simp (eq-eqb (length t) (textLength k) (p .long), is-angle, p .of-letter, l, in-sixties, angle-is, z, r)
 
 -- ---- a text that is read has the form
-rejoined : (k : Coordinate) (t : List ℕ) → length t ≡ size k → degrees k t ++ minutes k t ++ seconds k t ++ point k t ∷ thousandths k t ++ letter k t ∷ [] ≡ t
+rejoined : (k : Coordinate) (t : List ℕ) → length t ≡ textLength k → degrees k t ++ minutes k t ++ seconds k t ++ point k t ∷ thousandths k t ++ letter k t ∷ [] ≡ t
 rejoined latitude = by-bytes 11 _ (λ f. refl)
 rejoined longitude = by-bytes 12 _ (λ f. refl)
 
 -- it passed every test
 pub record Passed (k : Coordinate) (t : List ℕ) (x : ℤ) : Type 0 where
-  pub long : length t ≡ size k
+  pub long : length t ≡ textLength k
   pub is-angle : isAngle k t ≡ true
   pub is-letter : isLetter k (letter k t) ≡ true
   pub in-sixties : inSixties k t ≡ true
@@ -93,13 +85,13 @@ pub record Passed (k : Coordinate) (t : List ℕ) (x : ℤ) : Type 0 where
 accepted : (k : Coordinate) (t : List ℕ) {x : ℤ} → read k t ≡ gives x → Passed k t x
 unfolding read
 accepted k t h =
-    let one = passed (eqb (length t) (size k)) 1 _ h in
+    let one = passed (eqb (length t) (textLength k)) 1 _ h in
     let two = passed (rightKinds k t) 2 _ (one .1) in
     let three = passed (rightRanges k t) 3 _ (two .1) in
     let kinds = both (isAngle k t) (isLetter k (letter k t)) (two .0) in
     let range = both (inSixties k t && noZeroSouth (letter k t) (angle k t)) (inRange k (value k t)) (three .0) in
     let below = both (inSixties k t) (noZeroSouth (letter k t) (angle k t)) (range .0) in
-    record { long = eqb-true (length t) (size k) (one .0); is-angle = kinds .0; is-letter = kinds .1; in-sixties = below .0; no-zero-south = below .1; in-range = range .1; value-is = same-value (three .1) }
+    record { long = eqb-true (length t) (textLength k) (one .0); is-angle = kinds .0; is-letter = kinds .1; in-sixties = below .0; no-zero-south = below .1; in-range = range .1; value-is = same-value (three .1) }
 
 -- so its parts are digits, of the right number
 record Digits (k : Coordinate) (t : List ℕ) : Type 0 where

@@ -6,7 +6,7 @@ use lib.IntN.{ℤ}
 use lib.ListN.{length, take, drop}
 use lib.Seq.{take-length}
 use borrow.Author.Tests.{le-leb, lt-leb}
-use Rattle.kinds.specs.Answer.{Answer, gives, refused, demand, placed, counted, lent}
+use Rattle.kinds.specs.Answer.{Answer, gives, refused, provided, placed, counted, lent}
 use Rattle.kinds.specs.Kinds.{tested}
 use Rattle.kinds.proofs.Answers.{passed, failed}
 use Rattle.position.specs.Text.{Coordinate, latitude, longitude, inRange, digits, spelled, text, write}
@@ -40,5 +40,5 @@ module _ (k : Coordinate) (x : ℤ) (out : List ℕ) where
   pub in-range : {y : ℤ} {a : Answer ℕ} {l : List ℕ} → tested (inRange k x) x ≡ gives y → (bytes : List ℕ) → bytes ≡ text k x → Written (placed bytes (length out)) out a l → Written (write k x (length out)) out a l
   unfolding write
   in-range h bytes e w =
-      let p : placed bytes (length out) ≡ demand (inRange k x) 3 (placed (text k x) (length out)) = simp (e, passed (inRange k x) 3 (gives x) h .0) in
+      let p : placed bytes (length out) ≡ provided (inRange k x) 3 (placed (text k x) (length out)) = simp (e, passed (inRange k x) 3 (gives x) h .0) in
       (w .0 ∙ ap counted p, w .1 ∙ ap (λ (a : Answer (List ℕ)). lent a out) p)

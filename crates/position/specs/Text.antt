@@ -6,7 +6,7 @@ use Prim.Native.Nat.{ℕ, zero, suc, _+_, _-_, _*_, _/_, _%_, _^_}
 use lib.Dec.{eqb, leb, ltb}
 use lib.IntN.{ℤ, pos, negsuc, negℤ, natAbs}
 use lib.ListN.{length, getD, take, drop}
-use Rattle.kinds.specs.Answer.{Answer, gives, demand, placed}
+use Rattle.kinds.specs.Answer.{Answer, gives, provided, placed}
 use Rattle.kinds.specs.Kinds.{isLatitude, isLongitude}
 
 pub data Coordinate : Type 0 where
@@ -32,15 +32,17 @@ abbrev pub places : Coordinate → ℕ
 places latitude = 2
 places longitude = 3
 
+-- the numbers that have a text
 abbrev pub inRange : Coordinate → ℤ → Bool
 inRange latitude x = isLatitude x
 inRange longitude x = isLongitude x
 
+-- the letters that may end it
 abbrev pub isLetter : Coordinate → ℕ → Bool
 isLetter latitude b = eqb b letterN || eqb b letterS
 isLetter longitude b = eqb b letterE
 
--- zero is written with N
+-- a number's letter: zero is written with N
 abbrev pub letterOf : Coordinate → ℤ → ℕ
 letterOf latitude (pos m) = letterN
 letterOf latitude (negsuc m) = letterS
@@ -67,10 +69,19 @@ unfoldable pub digits : ℕ → ℕ → List ℕ
 digits zero n = []
 digits (suc w) n = (48 + n / 10 ^ w % 10) ∷ digits w n
 
--- ---- the parts of a text
-abbrev pub size : Coordinate → ℕ
-size k = places k + 9
+-- ---- the form of a text
+-- degrees, minutes, seconds and thousandths, each in its digits, and a letter
+abbrev pub formed : Coordinate → ℕ → ℕ → ℕ → ℕ → ℕ → List ℕ
+formed k d m s f b = digits (places k) d ++ digits 2 m ++ digits 2 s ++ fullStop ∷ digits 3 f ++ b ∷ []
 
+abbrev pub textLength : Coordinate → ℕ
+textLength k = places k + 9
+
+-- the ms that they make
+abbrev pub ms : ℕ → ℕ → ℕ → ℕ → ℕ
+ms d m s f = d * 3600000 + m * 60000 + s * 1000 + f
+
+-- ---- its parts
 -- n bytes from a place on
 abbrev pub part : ℕ → ℕ → List ℕ → List ℕ
 part from n t = take n (drop from t)
@@ -96,7 +107,9 @@ letter k t = getD t (places k + 8) 0
 -- ---- reading
 -- the bytes before the letter are digits and a point
 unfoldable pub isAngle : Coordinate → List ℕ → Bool
-isAngle k t = allDigits (degrees k t) && allDigits (minutes k t) && allDigits (seconds k t) && eqb (point k t) fullStop && allDigits (thousandths k t)
+isAngle k t =
+    allDigits (degrees k t) && allDigits (minutes k t) && allDigits (seconds k t)
+    && eqb (point k t) fullStop && allDigits (thousandths k t)
 
 -- minutes and seconds are below 60
 unfoldable pub inSixties : Coordinate → List ℕ → Bool
@@ -104,7 +117,7 @@ inSixties k t = ltb (number (minutes k t)) 60 && ltb (number (seconds k t)) 60
 
 -- the ms before the letter
 unfoldable pub angle : Coordinate → List ℕ → ℕ
-angle k t = number (degrees k t) * 3600000 + number (minutes k t) * 60000 + number (seconds k t) * 1000 + number (thousandths k t)
+angle k t = ms (number (degrees k t)) (number (minutes k t)) (number (seconds k t)) (number (thousandths k t))
 
 -- S stands for a number below zero
 abbrev pub signed : ℕ → ℕ → ℤ
@@ -127,16 +140,16 @@ abbrev pub rightRanges : Coordinate → List ℕ → Bool
 rightRanges k t = inSixties k t && noZeroSouth (letter k t) (angle k t) && inRange k (value k t)
 
 unfoldable pub read : Coordinate → List ℕ → Answer ℤ
-read k t = demand (eqb (length t) (size k)) 1 (demand (rightKinds k t) 2 (demand (rightRanges k t) 3 (gives (value k t))))
+read k t = provided (eqb (length t) (textLength k)) 1 (provided (rightKinds k t) 2 (provided (rightRanges k t) 3 (gives (value k t))))
 
 -- ---- writing
--- m ms, with a letter
+-- n ms, and a letter
 unfoldable pub spelled : Coordinate → ℕ → ℕ → List ℕ
-spelled k m b = digits (places k) (m / 1000 / 60 / 60) ++ digits 2 (m / 1000 / 60 % 60) ++ digits 2 (m / 1000 % 60) ++ fullStop ∷ digits 3 (m % 1000) ++ b ∷ []
+spelled k n b = formed k (n / 1000 / 60 / 60) (n / 1000 / 60 % 60) (n / 1000 % 60) (n % 1000) b
 
 abbrev pub text : Coordinate → ℤ → List ℕ
 text k x = spelled k (natAbs x) (letterOf k x)
 
 -- to a lent buffer with room for so many bytes
 unfoldable pub write : Coordinate → ℤ → ℕ → Answer (List ℕ)
-write k x room = demand (inRange k x) 3 (placed (text k x) room)
+write k x room = provided (inRange k x) 3 (placed (text k x) room)
