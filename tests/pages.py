@@ -84,8 +84,8 @@ def made(n):
 
 
 def shifted(ms, shift):
-    """By each of the two local kinds, where ms is in its range."""
-    return f'{ms} by {shift}:' + ''.join(f' {100 * ms + shift}' for least, largest in KINDS[:2] if least <= ms <= largest)
+    """ms as each of the two local kinds, by the shift."""
+    return f'{ms} by {shift}:' + ''.join(f' {100 * ms + shift}' if least <= ms <= largest else ' refused 3' for least, largest in KINDS[:2])
 
 
 def read(form, text):
@@ -152,25 +152,26 @@ def text():
 
 def check():
     """Document 01, 'The working rule' and 'Points to hold against the page', in its own figures."""
-    k = 78_539_816
+    factor = 78_539_816        # K of code 1
     points = [
         (Fraction(5, 2), 3), (Fraction(-5, 2), -3),
-        (Fraction(k * 1_800_000, 3_600_000), 39_269_908), (Fraction(k, 3_600_000), 22), (Fraction(-k, 3_600_000), -22),
+        (Fraction(factor * 1_800_000, 3_600_000), 39_269_908), (Fraction(factor, 3_600_000), 22), (Fraction(-factor, 3_600_000), -22),
         (Fraction(39_269_908 ** 2, SCALE), 15_421_257),
     ]
-    wrong = [f'{x} gives {rounded(x)}, and the paper says {n}' for x, n in points if rounded(x) != n]
     texts = [
-        (LATITUDE, '900000.000N', '(324000000)'), (LATITUDE, '000000.000S', '3'), (LATITUDE, '900000.001N', '3'), (LONGITUDE, '3600000.000E', '3'),
+        (LATITUDE, '900000.000N', '(324000000)'), (LATITUDE, '000000.000S', '3'),
+        (LATITUDE, '900000.001N', '3'), (LONGITUDE, '3600000.000E', '3'),
     ]
-    wrong += [f'{t} gives {read(k, t.encode())}, and the paper says {a}' for k, t, a in texts if read(k, t.encode()) != a]
+    wrong = [f'{x} gives {rounded(x)}, and the paper says {n}' for x, n in points if rounded(x) != n]
+    wrong += [f'{t} gives {read(form, t.encode())}, and the paper says {a}' for form, t, a in texts if read(form, t.encode()) != a]
     with open('crates/pages/stdout', encoding='ascii') as f:
         if f.read() != text():
             wrong.append('crates/pages/stdout is not what this script works out')
-    return wrong
+    return wrong, len(points) + len(texts)
 
 
 if '--check' in sys.argv:
-    problems = check()
-    print('\n'.join(problems) or f'pages: {text().count(chr(10))} lines and 10 points of document 01 agree')
+    problems, held = check()
+    print('\n'.join(problems) or f'pages: {text().count(chr(10))} lines and {held} points of document 01 agree')
     sys.exit(1 if problems else 0)
 sys.stdout.write(text())

@@ -1,6 +1,7 @@
 -- What an answer says of the tests before it, and how what is said determines the answer. Assumes nothing.
 use mathlib.Core.Path.{_≡_, refl, sym, ap, _∙_}
 use mathlib.Core.Bool.{Bool, true, false, cond}
+use mathlib.Core.Logic.{_⊎_, inl, inr}
 use Prim.Native.Nat.{ℕ}
 use native.Mathlib.Omega.{arith}
 use lib.Dec.{eqb}
@@ -32,6 +33,11 @@ module _ {A : Type 0} where
   pub own : (b : Bool) (n : ℕ) (a : Answer A) → (a ≡ refused n → ⊥) → provided b n a ≡ refused n → b ≡ false
   own true n a h e = absurd (h e)
   own false n a h e = refl
+
+  -- a number is the test's own, or comes from behind it
+  pub own-or-behind : (b : Bool) (n m : ℕ) (a : Answer A) → provided b n a ≡ refused m → (m ≡ n) ⊎ (a ≡ refused m)
+  own-or-behind true n m a e = inr e
+  own-or-behind false n m a e = inl (sym (same-number e))
 
   -- another's number: the test held, and what is behind it gave the number
   pub behind : (b : Bool) (n m : ℕ) (a : Answer A) → (n ≡ m → ⊥) → provided b n a ≡ refused m → (b ≡ true) × (a ≡ refused m)

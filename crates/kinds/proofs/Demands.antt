@@ -3,10 +3,13 @@ use mathlib.Core.Path.{_≡_, refl, ap}
 use mathlib.Core.List.{List}
 use Prim.Native.Nat.{ℕ, _≤_}
 use native.Mathlib.Omega.{arith}
-use lib.ListN.{length, take, drop}
+use lib.IntN.{ℤ}
+use lib.ListN.{length, take, drop, length-append, length-drop}
 use lib.Seq.{take-append-seam, drop-append-seam}
 use Rattle.kinds.specs.Answer.{gives, refused, numberOf, lent}
 use Rattle.kinds.specs.Cases.{localLatitude, localLongitude, wgs84Latitude, wgs84Longitude, angleShift, height, written}
+use Rattle.kinds.specs.declared.Wgs84Latitude.{Wgs84Latitude}
+use Rattle.kinds.specs.declared.Wgs84Longitude.{Wgs84Longitude}
 use Rattle.kinds.specs.declared.Refusal.{Refusal}
 use Rattle.kinds.specs.declared.Refusal.the-variants.{Length, Kind, Range, Code, Family, Area, Room, Foreign, Sheet}
 use Rattle.kinds.specs.declared.LocalLatitudeAnswer.{LocalLatitudeAnswer}
@@ -14,9 +17,9 @@ use Rattle.kinds.specs.declared.LocalLatitudeAnswer.the-variants as Loca
 use Rattle.kinds.specs.declared.LocalLongitudeAnswer.{LocalLongitudeAnswer}
 use Rattle.kinds.specs.declared.LocalLongitudeAnswer.the-variants as LocalLongitude
 use Rattle.kinds.specs.declared.Wgs84LatitudeAnswer.{Wgs84LatitudeAnswer}
-use Rattle.kinds.specs.declared.Wgs84LatitudeAnswer.the-variants as Wgs84Latitude
+use Rattle.kinds.specs.declared.Wgs84LatitudeAnswer.the-variants as Latitude84
 use Rattle.kinds.specs.declared.Wgs84LongitudeAnswer.{Wgs84LongitudeAnswer}
-use Rattle.kinds.specs.declared.Wgs84LongitudeAnswer.the-variants as Wgs84Longitude
+use Rattle.kinds.specs.declared.Wgs84LongitudeAnswer.the-variants as Longitude84
 use Rattle.kinds.specs.declared.AngleShiftAnswer.{AngleShiftAnswer}
 use Rattle.kinds.specs.declared.AngleShiftAnswer.the-variants as AngleShift
 use Rattle.kinds.specs.declared.HeightAnswer.{HeightAnswer}
@@ -52,7 +55,19 @@ written-at-start bytes out = take-append-seam bytes (drop (length bytes) out)
 pub rest-as-it-came : (bytes out : List ℕ) → drop (length bytes) (lent (gives bytes) out) ≡ drop (length bytes) out
 rest-as-it-came bytes out = drop-append-seam bytes (drop (length bytes) out)
 
--- ---- 'that two permitted answers coincide is proved': two answers that say the same are the same
+-- what has room for the bytes keeps its length
+pub room-as-it-was : (bytes out : List ℕ) → length bytes ≤ length out → length (lent (gives bytes) out) ≡ length out
+room-as-it-was bytes out h = simp (length-append, length-drop) (omega arith)
+
+-- ---- 'that two permitted answers coincide is proved'
+-- two converted positions of one number are the same
+pub wgs84-latitude-by-number : (a b : Wgs84Latitude) → a .0 ≡ b .0 → a ≡ b
+wgs84-latitude-by-number a b h = ap (λ (x : ℤ). record { 0 = x }) h
+
+pub wgs84-longitude-by-number : (a b : Wgs84Longitude) → a .0 ≡ b .0 → a ≡ b
+wgs84-longitude-by-number a b h = ap (λ (x : ℤ). record { 0 = x }) h
+
+-- two answers that say the same are the same
 pub local-latitude-determined : (a b : LocalLatitudeAnswer) → localLatitude a ≡ localLatitude b → a ≡ b
 local-latitude-determined = determined (λ x. LocalLatitude.Gives (record { 0 = x })) LocalLatitude.Refused localLatitude back
   where
@@ -68,18 +83,18 @@ local-longitude-determined = determined (λ x. LocalLongitude.Gives (record { 0 
     back (LocalLongitude.Refused r) = ap LocalLongitude.Refused (number-back r)
 
 pub wgs84-latitude-determined : (a b : Wgs84LatitudeAnswer) → wgs84Latitude a ≡ wgs84Latitude b → a ≡ b
-wgs84-latitude-determined = determined (λ x. Wgs84Latitude.Gives (record { 0 = x })) Wgs84Latitude.Refused wgs84Latitude back
+wgs84-latitude-determined = determined (λ x. Latitude84.Gives (record { 0 = x })) Latitude84.Refused wgs84Latitude back
   where
-    back : (e : Wgs84LatitudeAnswer) → rebuilt (λ x. Wgs84Latitude.Gives (record { 0 = x })) Wgs84Latitude.Refused (wgs84Latitude e) ≡ e
-    back (Wgs84Latitude.Gives x) = refl
-    back (Wgs84Latitude.Refused r) = ap Wgs84Latitude.Refused (number-back r)
+    back : (e : Wgs84LatitudeAnswer) → rebuilt (λ x. Latitude84.Gives (record { 0 = x })) Latitude84.Refused (wgs84Latitude e) ≡ e
+    back (Latitude84.Gives x) = refl
+    back (Latitude84.Refused r) = ap Latitude84.Refused (number-back r)
 
 pub wgs84-longitude-determined : (a b : Wgs84LongitudeAnswer) → wgs84Longitude a ≡ wgs84Longitude b → a ≡ b
-wgs84-longitude-determined = determined (λ x. Wgs84Longitude.Gives (record { 0 = x })) Wgs84Longitude.Refused wgs84Longitude back
+wgs84-longitude-determined = determined (λ x. Longitude84.Gives (record { 0 = x })) Longitude84.Refused wgs84Longitude back
   where
-    back : (e : Wgs84LongitudeAnswer) → rebuilt (λ x. Wgs84Longitude.Gives (record { 0 = x })) Wgs84Longitude.Refused (wgs84Longitude e) ≡ e
-    back (Wgs84Longitude.Gives x) = refl
-    back (Wgs84Longitude.Refused r) = ap Wgs84Longitude.Refused (number-back r)
+    back : (e : Wgs84LongitudeAnswer) → rebuilt (λ x. Longitude84.Gives (record { 0 = x })) Longitude84.Refused (wgs84Longitude e) ≡ e
+    back (Longitude84.Gives x) = refl
+    back (Longitude84.Refused r) = ap Longitude84.Refused (number-back r)
 
 pub angle-shift-determined : (a b : AngleShiftAnswer) → angleShift a ≡ angleShift b → a ≡ b
 angle-shift-determined = determined (λ x. AngleShift.Gives (record { 0 = x })) AngleShift.Refused angleShift back

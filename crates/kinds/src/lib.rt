@@ -1,6 +1,6 @@
 // The kinds of quantity: latitude and longitude on the local datum and on WGS 84, the shift of an angle, and height; and why
-// a call is refused. Outside this crate a kind is made by its constructor, which tests a raw number, and read by a method, so
-// code that takes one kind for another, or a bare number for a kind, does not build.
+// a call is refused. Outside this crate a kind is made by `new`, which tests a raw number (a WGS 84 position also by `shifted`,
+// which does not), and read by a method: code that takes one kind, or a bare number, for another kind does not build.
 ghost use mathlib.Core.Path.{_≡_};
 ghost use Rattle.kinds.specs.Answer.{numberOf};
 ghost use Rattle.kinds.specs.Cases.{localLatitude, localLongitude, wgs84Latitude, wgs84Longitude, angleShift, height};
@@ -24,11 +24,12 @@ pub enum Refusal {
     Room,
     // the sheet's serial is not zero and not the unit's
     Foreign,
-    // the sheet's serial is zero, a count is over its limit, or its codes are wrong
+    // the sheet's serial is zero, a count is over its limit, codes do not rise or are not 1 to 6, or a point's code is not listed
     Sheet,
 }
 
 impl Refusal {
+    // Document 01's number, 1 to 9.
     pub fn number(self) -> u8
         ensures { λ r. ⌜ r ≡ numberOf self ⌝ }
     {
@@ -71,10 +72,11 @@ impl LocalLatitude {
     // at the north pole
     pub const LARGEST: i64 = 90 * LocalLatitude::DEGREE;
 
+    // From -LARGEST to LARGEST; refused with 3 outside.
     pub fn new(ms: i64) -> LocalLatitudeAnswer
         ensures { λ r. ⌜ localLatitude r ≡ tested (isLatitude ms) ms ⌝ }
     {
-        if within(ms, -LocalLatitude::LARGEST, LocalLatitude::LARGEST) {
+        if within(-LocalLatitude::LARGEST, LocalLatitude::LARGEST, ms) {
             LocalLatitudeAnswer::Gives(LocalLatitude(ms as i32))
         } else {
             LocalLatitudeAnswer::Refused(Refusal::Range)
@@ -87,15 +89,15 @@ impl LocalLatitude {
         self.0
     }
 
-    // Where a shift leads. Past a pole, or the turn of a longitude, nothing is wrapped.
+    // Where a shift leads. Past a pole it is not refused.
     pub fn shifted(self, by: AngleShift) -> Wgs84Latitude
         ensures { λ r. ⌜ r .0 ≡ converted (self .0) (by .0) ⌝ }
     {
-        Wgs84Latitude(converted(self.0, by.0))
+        Wgs84Latitude(converted(self.0, by))
     }
 }
 
-// Longitude on the local datum, in ms, east positive, from 0 up to a turn.
+// Longitude on the local datum, in ms, east positive.
 pub struct LocalLongitude(i32);
 
 pub enum LocalLongitudeAnswer {
@@ -107,10 +109,11 @@ impl LocalLongitude {
     // 360°, which is written 0
     pub const TURN: i64 = 360 * LocalLatitude::DEGREE;
 
+    // From 0 up to TURN, which is out; refused with 3 outside.
     pub fn new(ms: i64) -> LocalLongitudeAnswer
         ensures { λ r. ⌜ localLongitude r ≡ tested (isLongitude ms) ms ⌝ }
     {
-        if within(ms, 0, LocalLongitude::TURN - 1) {
+        if within(0, LocalLongitude::TURN - 1, ms) {
             LocalLongitudeAnswer::Gives(LocalLongitude(ms as i32))
         } else {
             LocalLongitudeAnswer::Refused(Refusal::Range)
@@ -123,10 +126,11 @@ impl LocalLongitude {
         self.0
     }
 
+    // Where a shift leads. Below 0 or from a turn up it is not wrapped.
     pub fn shifted(self, by: AngleShift) -> Wgs84Longitude
         ensures { λ r. ⌜ r .0 ≡ converted (self .0) (by .0) ⌝ }
     {
-        Wgs84Longitude(converted(self.0, by.0))
+        Wgs84Longitude(converted(self.0, by))
     }
 }
 
@@ -150,10 +154,11 @@ impl AngleShift {
 
     pub const LARGEST: i64 = i32::MAX as i64;
 
+    // From LEAST to LARGEST; refused with 3 outside.
     pub fn new(units: i64) -> AngleShiftAnswer
         ensures { λ r. ⌜ angleShift r ≡ tested (isFourBytes units) units ⌝ }
     {
-        if within(units, AngleShift::LEAST, AngleShift::LARGEST) {
+        if within(AngleShift::LEAST, AngleShift::LARGEST, units) {
             AngleShiftAnswer::Gives(AngleShift(units as i32))
         } else {
             AngleShiftAnswer::Refused(Refusal::Range)
@@ -184,10 +189,11 @@ impl Height {
 
     pub const LARGEST: i64 = i32::MAX as i64;
 
+    // From LEAST to LARGEST; refused with 3 outside.
     pub fn new(mm: i64) -> HeightAnswer
         ensures { λ r. ⌜ height r ≡ tested (isFourBytes mm) mm ⌝ }
     {
-        if within(mm, Height::LEAST, Height::LARGEST) {
+        if within(Height::LEAST, Height::LARGEST, mm) {
             HeightAnswer::Gives(Height(mm as i32))
         } else {
             HeightAnswer::Refused(Refusal::Range)
@@ -212,10 +218,11 @@ pub enum Wgs84LatitudeAnswer {
 impl Wgs84Latitude {
     pub const LARGEST: i64 = AngleShift::PER_MS * LocalLatitude::LARGEST;
 
+    // From -LARGEST to LARGEST; refused with 3 outside.
     pub fn new(units: i64) -> Wgs84LatitudeAnswer
         ensures { λ r. ⌜ wgs84Latitude r ≡ tested (isWgs84Latitude units) units ⌝ }
     {
-        if within(units, -Wgs84Latitude::LARGEST, Wgs84Latitude::LARGEST) {
+        if within(-Wgs84Latitude::LARGEST, Wgs84Latitude::LARGEST, units) {
             Wgs84LatitudeAnswer::Gives(Wgs84Latitude(units))
         } else {
             Wgs84LatitudeAnswer::Refused(Refusal::Range)
@@ -229,7 +236,7 @@ impl Wgs84Latitude {
     }
 }
 
-// Longitude on WGS 84, in 0.00001", east positive, from 0 up to a turn.
+// Longitude on WGS 84, in 0.00001", east positive.
 pub struct Wgs84Longitude(i64);
 
 pub enum Wgs84LongitudeAnswer {
@@ -240,10 +247,11 @@ pub enum Wgs84LongitudeAnswer {
 impl Wgs84Longitude {
     pub const TURN: i64 = AngleShift::PER_MS * LocalLongitude::TURN;
 
+    // From 0 up to TURN, which is out; refused with 3 outside.
     pub fn new(units: i64) -> Wgs84LongitudeAnswer
         ensures { λ r. ⌜ wgs84Longitude r ≡ tested (isWgs84Longitude units) units ⌝ }
     {
-        if within(units, 0, Wgs84Longitude::TURN - 1) {
+        if within(0, Wgs84Longitude::TURN - 1, units) {
             Wgs84LongitudeAnswer::Gives(Wgs84Longitude(units))
         } else {
             Wgs84LongitudeAnswer::Refused(Refusal::Range)
@@ -258,15 +266,15 @@ impl Wgs84Longitude {
 }
 
 // Whether x is in range, both ends in.
-fn within(x: i64, least: i64, largest: i64) -> bool
+fn within(least: i64, largest: i64, x: i64) -> bool
     ensures { λ r. ⌜ r ≡ within least largest x ⌝ }
 {
     (least <= x) & (x <= largest)
 }
 
-// In 0.00001", of ms and a shift.
-fn converted(ms: i32, shift: i32) -> i64
-    ensures { λ r. ⌜ r ≡ converted ms shift ⌝ }
+// In 0.00001", of ms and their shift.
+fn converted(ms: i32, by: AngleShift) -> i64
+    ensures { λ r. ⌜ r ≡ converted ms (by .0) ⌝ }
 {
-    AngleShift::PER_MS * ms as i64 + shift as i64
+    AngleShift::PER_MS * ms as i64 + by.0 as i64
 }

@@ -48,7 +48,7 @@ fn made(n: i64) {
     }
 }
 
-// A local latitude, and a longitude of the same ms, by a shift; nothing where one of them is out of range.
+// A local latitude, and a longitude of the same ms, by a shift.
 fn converted(ms: i64, shift: i64) {
     super::print(b"\n", ms);
     super::print(b" by ", shift);
@@ -56,11 +56,13 @@ fn converted(ms: i64, shift: i64) {
     let AngleShiftAnswer::Gives(by) = AngleShift::new(shift) else {
         return;
     };
-    if let LocalLatitudeAnswer::Gives(x) = LocalLatitude::new(ms) {
-        super::print(b" ", x.shifted(by).units());
+    match LocalLatitude::new(ms) {
+        LocalLatitudeAnswer::Gives(x) => super::print(b" ", x.shifted(by).units()),
+        LocalLatitudeAnswer::Refused(why) => refused(why),
     }
-    if let LocalLongitudeAnswer::Gives(x) = LocalLongitude::new(ms) {
-        super::print(b" ", x.shifted(by).units());
+    match LocalLongitude::new(ms) {
+        LocalLongitudeAnswer::Gives(x) => super::print(b" ", x.shifted(by).units()),
+        LocalLongitudeAnswer::Refused(why) => refused(why),
     }
 }
 

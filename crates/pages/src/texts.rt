@@ -1,4 +1,4 @@
-// Positions as text: a table of texts; every byte at every place, every length; and numbers written into rooms of every size.
+// Positions as text: a table of texts; every byte at every place, every length to 20; and numbers written into buffers.
 use kinds::LocalLatitudeAnswer;
 use kinds::LocalLongitudeAnswer;
 use kinds::Refusal;
@@ -48,6 +48,7 @@ fn bytes_at(text: &mut [u8], place: usize)
 {
     super::print(b"\nbyte ", place as i64);
     io::write_all(STDOUT_FILENO, b": ");
+    let kept = text[place];
     let mut b: u32 = 0;
     while b < 256 {
         text[place] = b as u8;
@@ -55,6 +56,7 @@ fn bytes_at(text: &mut [u8], place: usize)
         longitude(text);
         b += 1;
     }
+    text[place] = kept;
 }
 
 // The first bytes of a text, none to 20, read as each.
@@ -153,33 +155,20 @@ fn table() {
     read(b"999999.999S");
 }
 
-// Each place is given back its byte before the next.
 fn bytes(text: [u8; 12]) {
     let mut t = text;
     bytes_at(&mut t, 0);
-    t[0] = text[0];
     bytes_at(&mut t, 1);
-    t[1] = text[1];
     bytes_at(&mut t, 2);
-    t[2] = text[2];
     bytes_at(&mut t, 3);
-    t[3] = text[3];
     bytes_at(&mut t, 4);
-    t[4] = text[4];
     bytes_at(&mut t, 5);
-    t[5] = text[5];
     bytes_at(&mut t, 6);
-    t[6] = text[6];
     bytes_at(&mut t, 7);
-    t[7] = text[7];
     bytes_at(&mut t, 8);
-    t[8] = text[8];
     bytes_at(&mut t, 9);
-    t[9] = text[9];
     bytes_at(&mut t, 10);
-    t[10] = text[10];
     bytes_at(&mut t, 11);
-    t[11] = text[11];
 }
 
 pub(crate) fn all() {

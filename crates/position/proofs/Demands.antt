@@ -1,18 +1,19 @@
 -- What document 01 asks of positions as text, of latitude and longitude alike. Stated over specs/ alone. Assumes nothing.
 use mathlib.Core.Path.{_≡_, refl, sym, ap, _∙_, subst}
-use mathlib.Core.Bool.{true, false}
+use mathlib.Core.Bool.{Bool, true, false, _&&_, and-true, and-assoc}
 use mathlib.Core.List.{List, [], _∷_, _++_}
-use mathlib.Core.Logic.{_↔_}
-use Prim.Native.Nat.{ℕ, _+_, _*_, _<_, _≤_, _^_}
+use mathlib.Core.Logic.{_↔_, _⊎_}
+use Prim.Native.Nat.{ℕ, _<_, _≤_, _^_}
 use native.Mathlib.Omega.{arith}
-use lib.Dec.{leb}
+use lib.Dec.{eqb, leb}
 use lib.IntN.{ℤ, pos}
-use lib.ListN.{length, take, drop}
+use lib.ListN.{length, take, drop, replicate}
 use lib.Seq.{take-at}
 use borrow.Author.Tests.{le-leb}
 use Rattle.kinds.specs.Answer.{Answer, gives, refused, placed, lent}
 use Rattle.kinds.proofs.Answers.{same-value, passed}
-use Rattle.position.specs.Text.{Coordinate, latitude, places, textLength, inRange, isLetter, formed, ms, digitOf, allDigits, number, degrees, minutes, seconds, thousandths, letter, isAngle, inSixties, angle, signed, noZeroSouth, rightKinds, rightRanges, read, text, write}
+use Rattle.position.specs.Text.{Coordinate, latitude, longitude, fullStop, places, textLength, inRange, isLetter, isDigit, formed, ms, digitOf, allDigits, number, degrees, minutes, seconds, thousandths, letter, isAngle, inSixties, angle, signed, noZeroSouth, rightKinds, rightRanges, read, text, write}
+use Rattle.position.proofs.Bytes.{by-bytes}
 use Rattle.position.proofs.Trip as trip
 use Rattle.position.proofs.Refusals as refusals
 
@@ -112,12 +113,47 @@ given-2 k t = refusals.given-2 k t
 pub given-3 : (k : Coordinate) (t : List ℕ) → (read k t ≡ refused 3) ↔ ((length t ≡ textLength k) × ((rightKinds k t ≡ true) × (rightRanges k t ≡ false)))
 given-3 k t = refusals.given-3 k t
 
+-- and no other is
+pub given-one-of : (k : Coordinate) (t : List ℕ) (n : ℕ) → read k t ≡ refused n → (n ≡ 1) ⊎ ((n ≡ 2) ⊎ (n ≡ 3))
+given-one-of k t n h = refusals.given-one-of k t n h
+
+-- 'a byte of a text is not of its kind', byte by byte: the kind of each place, and the bytes held against it
+abbrev pub pattern : Coordinate → List (ℕ → Bool)
+pattern k = replicate (places k) isDigit ++ isDigit ∷ isDigit ∷ isDigit ∷ isDigit ∷ (λ b. eqb b fullStop) ∷ isDigit ∷ isDigit ∷ isDigit ∷ isLetter k ∷ []
+
+abbrev pub fits : List (ℕ → Bool) → List ℕ → Bool
+fits (p ∷ ps) (b ∷ t) = p b && fits ps t
+fits [] [] = true
+fits [] (b ∷ t) = false
+fits (p ∷ ps) [] = false
+
+pub byte-by-byte : (k : Coordinate) (t : List ℕ) → length t ≡ textLength k → rightKinds k t ≡ fits (pattern k) t
+unfolding isAngle allDigits
+byte-by-byte latitude = by-bytes 11 _ (λ f. simp (and-true, and-assoc))
+byte-by-byte longitude = by-bytes 12 _ (λ f. simp (and-true, and-assoc))
+
 -- ---- 'For writing one: 3, 7'
 pub written-3 : (k : Coordinate) (x : ℤ) (room : ℕ) → (write k x room ≡ refused 3) ↔ (inRange k x ≡ false)
 written-3 k x room = refusals.written-3 k x room
 
 pub written-7 : (k : Coordinate) (x : ℤ) (room : ℕ) → (write k x room ≡ refused 7) ↔ ((inRange k x ≡ true) × (room < textLength k))
 written-7 k x room = refusals.written-7 k x room
+
+pub written-one-of : (k : Coordinate) (x : ℤ) (room n : ℕ) → write k x room ≡ refused n → (n ≡ 3) ⊎ (n ≡ 7)
+written-one-of k x room n h = refusals.written-one-of k x room n h
+
+-- the orders, where two refusals are due
+pub record Orders : Type 0 where
+  -- x: a wrong length and a wrong byte
+  pub length-first : read latitude (120 ∷ []) ≡ refused 1
+  -- 999999.99xN: a wrong byte and too many minutes
+  pub byte-next : read latitude (57 ∷ 57 ∷ 57 ∷ 57 ∷ 57 ∷ 57 ∷ 46 ∷ 57 ∷ 57 ∷ 120 ∷ 78 ∷ []) ≡ refused 2
+  -- past the pole, and no room
+  pub range-first : write latitude (pos 324000001) 0 ≡ refused 3
+
+pub orders : Orders
+unfolding read write isAngle inSixties angle allDigits number digitOf
+orders = record { length-first = refl; byte-next = refl; range-first = refl }
 
 -- ---- 'Points to hold against the page': two of the twelve
 pub record Worked : Type 0 where

@@ -2,7 +2,7 @@
 use mathlib.Core.Path.{_≡_}
 use mathlib.Core.Bool.{Bool, true, false}
 use mathlib.Core.List.{List}
-use mathlib.Core.Logic.{_↔_}
+use mathlib.Core.Logic.{_↔_, _⊎_, inl, inr, ⊎-elim}
 use Prim.Native.Nat.{ℕ, _<_}
 use native.Mathlib.Omega.{arith}
 use lib.Dec.{eqb, leb}
@@ -10,7 +10,7 @@ use lib.IntN.{ℤ}
 use lib.ListN.{length}
 use borrow.Author.Tests.{eq-eqb, ne-eqb, eqb-true, eqb-false, lt-leb, leb-false}
 use Rattle.kinds.specs.Answer.{Answer, gives, refused, provided, placed}
-use Rattle.kinds.proofs.Answers.{not-both, own, behind}
+use Rattle.kinds.proofs.Answers.{not-both, failed, own, own-or-behind, behind}
 use Rattle.position.specs.Text.{Coordinate, textLength, inRange, rightKinds, rightRanges, value, read, text, write}
 use Rattle.position.proofs.Trip.{text-length}
 
@@ -55,6 +55,16 @@ module _ (k : Coordinate) (t : List ℕ) where
     (λ h. simp (eq-eqb (length t) (textLength k) (h .0), h .1 .0, h .1 .1)),
   )
 
+  pub given-one-of : (n : ℕ) → read k t ≡ refused n → (n ≡ 1) ⊎ ((n ≡ 2) ⊎ (n ≡ 3))
+  unfolding read
+  given-one-of n h =
+      ⊎-elim inl
+      (λ a. inr
+      (⊎-elim inl
+      (λ b. inr (failed (rightRanges k t) 3 (value k t) b .1))
+      (own-or-behind (rightKinds k t) 2 n ranged a)))
+      (own-or-behind long 1 n kinded h)
+
 -- ---- writing
 module _ (k : Coordinate) (x : ℤ) (room : ℕ) where
   abbrev fits : Bool
@@ -75,3 +85,10 @@ module _ (k : Coordinate) (x : ℤ) (room : ℕ) where
         (one .0, omega (arith, text-length k x, leb-false (length (text k x)) room (own fits 7 (gives (text k x)) not-both (one .1))))),
     (λ h. simp (h .0, lt-leb (length (text k x)) room (omega (arith, text-length k x, h .1)))),
   )
+
+  pub written-one-of : (n : ℕ) → write k x room ≡ refused n → (n ≡ 3) ⊎ (n ≡ 7)
+  unfolding write
+  written-one-of n h =
+      ⊎-elim inl
+      (λ a. inr (failed fits 7 (text k x) a .1))
+      (own-or-behind (inRange k x) 3 n (placed (text k x) room) h)

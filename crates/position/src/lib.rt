@@ -13,8 +13,8 @@ ghost use Rattle.kinds.specs.Answer.{placed, counted, lent};
 ghost use Rattle.kinds.specs.Cases.{localLatitude, localLongitude, written};
 ghost use Rattle.position.specs.Text.{latitude, longitude, isDigit, digitOf, allDigits, number, part, isAngle, inSixties, angle, read, spelled, write};
 
-// Reads the 11 bytes `ddmmss.sssN` or `S`. Refused: 1 another length, 2 a byte that is not of its kind, 3 minutes or seconds
-// from 60 up, past 90°, or S after zero.
+// Reads the 11 bytes `ddmmss.sssN` or `S` into ms, north positive: `900000.000N` is 324000000. Refused: 1 another length, 2 a
+// byte that is not of its kind, 3 minutes or seconds from 60 up, past 90°, or S after zero.
 pub fn read_latitude(text: &[u8]) -> LocalLatitudeAnswer
     ensures { λ r. ⌜ localLatitude r ≡ read latitude (now (text .entry)) ⌝ }
 {
@@ -35,7 +35,8 @@ pub fn read_latitude(text: &[u8]) -> LocalLatitudeAnswer
     LocalLatitude::new(ms as i64)
 }
 
-// Reads the 12 bytes `dddmmss.sssE`. Refused: 1, 2 and 3 likewise, 3 from 360° up.
+// Reads the 12 bytes `dddmmss.sssE` into ms, east positive: `0330000.000E` is 118800000. Refused: 1 another length, 2 a byte
+// that is not of its kind, 3 minutes or seconds from 60 up, or from 360° up.
 pub fn read_longitude(text: &[u8]) -> LocalLongitudeAnswer
     ensures { λ r. ⌜ localLongitude r ≡ read longitude (now (text .entry)) ⌝ }
 {
@@ -54,7 +55,7 @@ pub fn read_longitude(text: &[u8]) -> LocalLongitudeAnswer
     LocalLongitude::new((digit(hundreds) * HUNDRED_DEGREES + angle(rest)) as i64)
 }
 
-// Writes a latitude in ms to the first 11 bytes of out. Refused: 3 past 90°, 7 out is shorter.
+// Writes a latitude in ms to the first 11 bytes of out: -1 is `000000.001S`. Refused: 3 past 90°, 7 out is shorter.
 pub fn write_latitude(ms: i64, out: &mut [u8]) -> WrittenAnswer
     ensures { λ r. ⌜ written r ≡ counted (write latitude ms (length (now (out .entry)))) ⌝ }
     ensures { λ r. ⌜ now (out .exit) ≡ lent (write latitude ms (length (now (out .entry)))) (now (out .entry)) ⌝ }
@@ -70,7 +71,8 @@ pub fn write_latitude(ms: i64, out: &mut [u8]) -> WrittenAnswer
     put(&line[1..], out)
 }
 
-// Writes a longitude in ms to the first 12 bytes of out. Refused: 3 below 0 or from 360° up, 7 out is shorter.
+// Writes a longitude in ms to the first 12 bytes of out: 118800000 is `0330000.000E`. Refused: 3 below 0 or from 360° up, 7
+// out is shorter.
 pub fn write_longitude(ms: i64, out: &mut [u8]) -> WrittenAnswer
     ensures { λ r. ⌜ written r ≡ counted (write longitude ms (length (now (out .entry)))) ⌝ }
     ensures { λ r. ⌜ now (out .exit) ≡ lent (write longitude ms (length (now (out .entry)))) (now (out .entry)) ⌝ }

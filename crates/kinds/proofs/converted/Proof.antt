@@ -19,7 +19,7 @@ module _ (c : tie.Start) where
   ms = c .args .ms
 
   abbrev shift : ℤ
-  shift = c .args .shift
+  shift = c .args .by .0
 
   hundredfold : natAbs (pos 100 *ℤ ms) ≤ 100 * 2 ^ 31
   hundredfold = omega (arith, abs-* (pos 100) ms, sized ms (c .fits .ms))
@@ -30,8 +30,11 @@ module _ (c : tie.Start) where
   product-is : Holds w64 (wr w64 _*ℤ_ 100 (ofZ w64 (toZ w32 (ofZ w32 ms)))) (pos 100 *ℤ ms)
   product-is = gives _*ℤ_ (lit 100 tt) (widened (c .fits .ms)) product-fits
 
-  sum-fits : SFits w64 (pos 100 *ℤ ms +ℤ shift)
-  sum-fits = small (pos 100 *ℤ ms +ℤ shift) (omega (arith, hundredfold, abs-+ (pos 100 *ℤ ms) shift, sized shift (c .fits .shift)))
+  sum-fits : SFits w32 shift → SFits w64 (pos 100 *ℤ ms +ℤ shift)
+  sum-fits f = small (pos 100 *ℤ ms +ℤ shift) (omega (arith, hundredfold, abs-+ (pos 100 *ℤ ms) shift, sized shift f))
+
+shift-fits : (c : tie.After-struct-told) → SFits w32 (shift (c .before .before))
+shift-fits c = record { sfits = c .struct-told .given .0 .1 }
 
 cast-result : tie.Need-cast-result
 cast-result c = cast-asks (of (c .fits .ms)) (sfits-widen tt (c .fits .ms))
@@ -40,13 +43,13 @@ mul-result : tie.Need-mul-result
 mul-result c = asks _*ℤ_ (lit 100 tt) (widened (c .fits .ms)) (product-fits c)
 
 cast-result-2 : tie.Need-cast-result-2
-cast-result-2 c = cast-asks (of (c .fits .shift)) (sfits-widen tt (c .fits .shift))
+cast-result-2 c = cast-asks (of (shift-fits c)) (sfits-widen tt (shift-fits c))
 
 add-result : tie.Need-add-result
-add-result c = asks _+ℤ_ (product-is c) (widened (c .fits .shift)) (sum-fits c)
+add-result c = asks _+ℤ_ (product-is (c .before .before)) (widened (shift-fits c)) (sum-fits (c .before .before) (shift-fits c))
 
 returns : tie.Need-returns
-returns c = gives _+ℤ_ (product-is c) (widened (c .fits .shift)) (sum-fits c) .reads
+returns c = gives _+ℤ_ (product-is (c .before .before)) (widened (shift-fits c)) (sum-fits (c .before .before) (shift-fits c)) .reads
 
 pub converted-spec : {M : Type 1} → statement M
 converted-spec = tie.close (tie.spec cast-result mul-result cast-result-2 add-result returns)

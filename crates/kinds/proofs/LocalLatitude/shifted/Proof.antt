@@ -1,6 +1,6 @@
 -- `kinds::LocalLatitude::shifted` meets its contract. Assumes nothing.
 use borrow.Author.Needs.{needs}
-use Rattle.kinds.proofs.Conversion.{of-fields}
+use Rattle.kinds.proofs.Conversion.{of-field}
 use Rattle.kinds.proofs.LocalLatitude.shifted.Statement.{statement}
 use Rattle.kinds.proofs.LocalLatitude.shifted.Tie as tie
 
@@ -10,7 +10,7 @@ converted-requires c κs = search needs
 returns : tie.Need-returns
 returns c =
     let s = c .before .before in
-    of-fields (s .before .args .self .0) (s .before .args .by .0) (c .converted .result) (s .struct-told .given .0 .1) (c .before .struct-told2 .given .0 .1) (c .converted .ok) (c .converted .ensures)
+    of-field (s .args .self .0) (s .args .by .0) (c .converted .result) (c .before .struct-told .given .0 .1) (c .converted .ok) (c .converted .ensures)
 
 pub shifted-spec : {M : Type 1} → statement M
 shifted-spec = tie.close (tie.spec converted-requires returns)

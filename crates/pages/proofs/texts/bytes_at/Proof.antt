@@ -1,17 +1,17 @@
 -- `pages::texts::bytes_at` is safe and ends. Assumes nothing.
 use mathlib.Core.Path.{_≡_}
 use Prim.Native.Nat.{_≤_, _-_}
-use lib.ListN.{length, length-set}
 use native.Mathlib.Omega.{arith}
+use lib.ListN.{length, length-set}
 use borrow.Author.Needs.{needs}
 use Rattle.pages.proofs.texts.bytes_at.Statement.{statement}
 use Rattle.pages.proofs.texts.bytes_at.Tie as tie
 
 abbrev Inv-loop : tie.InvT-loop
-Inv-loop text₀ place b₀ text b = (length text ≡ 12) × (b ≤ 256)
+Inv-loop text₀ place kept b₀ text b = (length text ≡ 12) × (b ≤ 256)
 
 abbrev μ-loop : tie.MeasureT-loop
-μ-loop text₀ place b₀ text b = 256 - b
+μ-loop text₀ place kept b₀ text b = 256 - b
 
 slice-aggregate-print : tie.Need-slice-aggregate-print Inv-loop μ-loop
 slice-aggregate-print c = search needs
@@ -27,6 +27,9 @@ slice-aggregate-write-all c = search needs
 
 write-all-requires : tie.Need-write-all-requires Inv-loop μ-loop
 write-all-requires c κs = search needs
+
+slice-read-kept : tie.Need-slice-read-kept Inv-loop μ-loop
+slice-read-kept c = search needs
 
 loop-holds : tie.Need-loop-holds Inv-loop μ-loop
 loop-holds c = search needs
@@ -61,8 +64,12 @@ loop-less c = search needs
 loop-again : tie.Need-loop-again Inv-loop μ-loop
 loop-again c = search needs
 
+slice-write-text-2 : tie.Need-slice-write-text-2 Inv-loop μ-loop
+slice-write-text-2 c = search needs
+
 same-length : tie.Need-same-length Inv-loop μ-loop
-same-length c = search needs
+same-length c =
+    simp length-set (omega (arith, c .before .loop .inv .0, c .before .before .before .before .before .before .before .before .pre .0))
 
 returns : tie.Need-returns Inv-loop μ-loop
 returns c = search needs
@@ -78,6 +85,7 @@ bytes-at-spec =
     print-requires
     slice-aggregate-write-all
     write-all-requires
+    slice-read-kept
     loop-holds
     cast-text
     slice-write-text
@@ -89,5 +97,6 @@ bytes-at-spec =
     add-b
     loop-less
     loop-again
+    slice-write-text-2
     same-length
     returns)
