@@ -1,12 +1,14 @@
 #!/usr/bin/env python3
-"""docs/LEDGER.md names what is there: each definition, function, theorem and must-fail edit that it cites exists, and each
-theorem of a Demands.antt and each must-fail edit is cited. Prints how many cells are still owed."""
+"""docs/LEDGER.md names what is there: each definition, function, theorem and must-fail edit that it cites exists; each theorem
+of a Demands.antt and each must-fail edit is cited, in its column, in a cell that names its crate; and no cell is empty in a
+section that is finished. Prints how many cells are still owed."""
 import glob
 import os
 import re
 import sys
 
 COLUMNS = ['promise', 'definition', 'function', 'theorem', 'must-fail edits', 'run']
+FINISHED = ['Positions']
 
 
 def declared(pattern, expression):
@@ -24,12 +26,16 @@ there = {
     'theorem': declared('crates/*/proofs/*.antt', NAME),
     'must-fail edits': {os.path.basename(p)[:-len('.edit')] for p in glob.glob('crates/*/must-fail/*.edit')},
 }
-demands = declared('crates/*/proofs/Demands.antt', r'^pub (\S+) :')
+to_cite = {('must-fail edits', p.split('/')[1], os.path.basename(p)[:-len('.edit')]) for p in glob.glob('crates/*/must-fail/*.edit')}
+for path in glob.glob('crates/*/proofs/Demands.antt'):
+    to_cite |= {('theorem', path.split('/')[1], name) for name in declared(path, r'^pub (?!record)(\S+) :')}
 
-wrong, cited, owed, rows = [], set(), 0, 0
+wrong, cited, owed, rows, section = [], set(), 0, 0, ''
 with open('docs/LEDGER.md', encoding='utf-8') as f:
     lines = f.read().split('\n')
 for number, line in enumerate(lines, 1):
+    if line.startswith('## '):
+        section = line[len('## '):]
     cells = [c.strip() for c in line.strip('|').split('|')]
     if not line.startswith('|') or cells[0] in ('promise', '---'):
         continue
@@ -38,12 +44,13 @@ for number, line in enumerate(lines, 1):
         continue
     rows += 1
     owed += sum(not c for c in cells)
+    if section in FINISHED and not all(cells):
+        wrong.append(f'docs/LEDGER.md:{number}: an empty cell under {section}, which is finished')
     for column, cell in zip(COLUMNS, cells):
         for name in re.findall(r'`([^`]+)`', cell) if column in there else []:
-            cited.add(name)
+            cited |= {(column, crate, name) for crate in re.findall(r'\w+', cell)}
             if name not in there[column]:
                 wrong.append(f'docs/LEDGER.md:{number}: there is no {column} `{name}`')
-for kind, names in (('theorem', demands), ('must-fail edit', there['must-fail edits'])):
-    wrong += [f'docs/LEDGER.md: does not cite the {kind} `{n}`' for n in sorted(names - cited)]
+wrong += [f'docs/LEDGER.md: does not cite {crate}\'s {kind} `{name}`' for kind, crate, name in sorted(to_cite - cited)]
 print('\n'.join(wrong) or f'ledger: {rows} rows, all that they cite is there; {owed} cells owed')
 sys.exit(1 if wrong else 0)

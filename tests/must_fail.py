@@ -2,15 +2,18 @@
 """No must-fail edit was refused for a name or the text alone: reads what the prover said of each, after rt ci.
 
 An edit that makes a file unreadable, or a proof file name what is not there or answer another need, is refused too and
-shows nothing. So no error may be about a name or the text, and an edit of the definitions alone must break a theorem of a Demands.antt itself. That
-an edited program is wrong, and not only another than the one proved, tests/wrong_programs.py shows by running it.
+shows nothing. So no error may be about a name or the text, and an edit of the definitions alone must break a theorem of a
+Demands.antt itself. That an edited program is wrong, and not only another than the one proved, tests/wrong_programs.py shows
+by running it.
 """
 import glob
 import os
 import re
 import sys
 
-UNFIT = re.compile(r'can be named from here|not in scope|Parse|is not a module|expected an? |wrong number of|has no field|expected type `tie\.Need-')
+UNFIT = re.compile(
+    r'can be named from here|not in scope(?! here)|Parse|is not a module|expected an? |wrong number of|has no field'
+    r'|expected type `tie\.Need-')
 
 wrong, seen = [], 0
 for edit in sorted(glob.glob('crates/*/must-fail/*.edit')):

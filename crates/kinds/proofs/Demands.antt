@@ -3,11 +3,13 @@ use mathlib.Core.Path.{_≡_, refl, ap}
 use mathlib.Core.List.{List}
 use Prim.Native.Nat.{ℕ, _≤_}
 use native.Mathlib.Omega.{arith}
-use lib.IntN.{ℤ}
+use lib.IntN.{ℤ, pos, negℤ, _*ℤ_}
 use lib.ListN.{length, take, drop, length-append, length-drop}
 use lib.Seq.{take-append-seam, drop-append-seam}
+use Rattle.whole.specs.Round.{roundDiv}
 use Rattle.kinds.specs.Answer.{gives, refused, numberOf, lent}
 use Rattle.kinds.specs.Cases.{localLatitude, localLongitude, wgs84Latitude, wgs84Longitude, angleShift, height, written}
+use Rattle.kinds.specs.Kinds.{converted}
 use Rattle.kinds.specs.declared.Wgs84Latitude.{Wgs84Latitude}
 use Rattle.kinds.specs.declared.Wgs84Longitude.{Wgs84Longitude}
 use Rattle.kinds.specs.declared.Refusal.{Refusal}
@@ -58,6 +60,15 @@ rest-as-it-came bytes out = drop-append-seam bytes (drop (length bytes) out)
 -- what has room for the bytes keeps its length
 pub room-as-it-was : (bytes out : List ℕ) → length bytes ≤ length out → length (lent (gives bytes) out) ≡ length out
 room-as-it-was bytes out h = simp (length-append, length-drop) (omega arith)
+
+-- ---- document 02, wish 1: code 1's centre, 35° and 33°, by its shifts is 34.998932533 and 32.999693628 degrees
+pub record Worked : Type 0 where
+  pub latitude : roundDiv (converted (pos 126000000) (negℤ (pos 384288)) *ℤ pos 1000000000) 360000000 ≡ pos 34998932533
+  pub longitude : roundDiv (converted (pos 118800000) (negℤ (pos 110294)) *ℤ pos 1000000000) 360000000 ≡ pos 32999693628
+
+pub converts : Worked
+unfolding roundDiv
+converts = record { latitude = refl; longitude = refl }
 
 -- ---- 'that two permitted answers coincide is proved'
 -- two converted positions of one number are the same

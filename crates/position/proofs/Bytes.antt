@@ -30,10 +30,10 @@ pub by-bytes : (n : ℕ) (P : List ℕ → Type 0) → ((f : ℕ → ℕ) → P 
 by-bytes n P p t h = subst P (sym (spelt n t h)) (p (at t))
 
 -- ---- a part, a byte at a time
-pub part-next : (from n : ℕ) (t : List ℕ) → from < length t → part from (suc n) t ≡ at t from ∷ part (suc from) n t
+part-next : (from n : ℕ) (t : List ℕ) → from < length t → part from (suc n) t ≡ at t from ∷ part (suc from) n t
 part-next from n t h = ap (take (suc n)) (drop-cons t from 0 h)
 
-pub part-two : (from : ℕ) (t : List ℕ) → from + 2 ≤ length t → part from 2 t ≡ at t from ∷ at t (from + 1) ∷ []
+part-two : (from : ℕ) (t : List ℕ) → from + 2 ≤ length t → part from 2 t ≡ at t from ∷ at t (from + 1) ∷ []
 part-two from t h =
     part-next from 1 t (omega arith)
     ∙ ap (λ (l : List ℕ). at t from ∷ l) (part-next (suc from) 0 t (omega arith) ∙ ap (λ (i : ℕ). at t i ∷ []) (sym (add-one from)))

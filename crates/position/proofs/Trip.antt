@@ -149,7 +149,7 @@ module _ (k : Coordinate) (t : List ℕ) {x : ℤ} (h : read k t ≡ gives x) wh
 
 -- ---- ms in degrees, minutes, seconds and thousandths
 module _ (d m s f : ℕ) (m< : m < 60) (s< : s < 60) (f< : f < 1000) where
-  pub spelled-formed : (k : Coordinate) (b : ℕ) → spelled k (ms d m s f) b ≡ formed k d m s f b
+  spelled-formed : (k : Coordinate) (b : ℕ) → spelled k (ms d m s f) b ≡ formed k d m s f b
   unfolding spelled
   spelled-formed k b = simp (thousands, last, sixty, sixtieth, degree, minute)
     where
@@ -171,19 +171,19 @@ module _ (d m s f : ℕ) (m< : m < 60) (s< : s < 60) (f< : f < 1000) where
       minute : (d * 60 + m) % 60 ≡ m
       minute = omega arith
 
-pub ms-formed : (n : ℕ) → ms (n / 1000 / 60 / 60) (n / 1000 / 60 % 60) (n / 1000 % 60) (n % 1000) ≡ n
+ms-formed : (n : ℕ) → ms (n / 1000 / 60 / 60) (n / 1000 / 60 % 60) (n / 1000 % 60) (n % 1000) ≡ n
 ms-formed n = omega arith
 
 -- ---- the letters
 -- a number's letter is one of its kind, and says its sign
-pub letter-of : (k : Coordinate) (x : ℤ) → inRange k x ≡ true → (isLetter k (letterOf k x) ≡ true) × ((noZeroSouth (letterOf k x) (natAbs x) ≡ true) × (signed (letterOf k x) (natAbs x) ≡ x))
+letter-of : (k : Coordinate) (x : ℤ) → inRange k x ≡ true → (isLetter k (letterOf k x) ≡ true) × ((noZeroSouth (letterOf k x) (natAbs x) ≡ true) × (signed (letterOf k x) (natAbs x) ≡ x))
 letter-of latitude (pos n) h = (refl, (refl, refl))
 letter-of latitude (negsuc n) h = (refl, (ap not (ne-eqb (suc n) 0 (λ e. omega arith)), refl))
 letter-of longitude (pos n) h = (refl, (refl, refl))
 letter-of longitude (negsuc n) h = absurd (false≢true h)
 
 -- and a letter after ms is that of the number they make
-pub letter-back : (k : Coordinate) (b n : ℕ) → isLetter k b ≡ true → noZeroSouth b n ≡ true → (letterOf k (signed b n) ≡ b) × (natAbs (signed b n) ≡ n)
+letter-back : (k : Coordinate) (b n : ℕ) → isLetter k b ≡ true → noZeroSouth b n ≡ true → (letterOf k (signed b n) ≡ b) × (natAbs (signed b n) ≡ n)
 letter-back latitude b n l z =
     either (eqb b letterN) (eqb b letterS) l
     (λ e. subst Back (sym (eqb-true b letterN e)) (refl, refl))
@@ -198,7 +198,7 @@ letter-back latitude b n l z =
 letter-back longitude b n l z = subst (λ (b : ℕ). (letterE ≡ b) × (natAbs (signed b n) ≡ n)) (sym (eqb-true b letterE l)) (refl, refl)
 
 -- the digits of the degrees are enough
-pub degrees-below : (k : Coordinate) (x : ℤ) → inRange k x ≡ true → natAbs x / 1000 / 60 / 60 < 10 ^ places k
+degrees-below : (k : Coordinate) (x : ℤ) → inRange k x ≡ true → natAbs x / 1000 / 60 / 60 < 10 ^ places k
 degrees-below latitude (pos n) h = omega (arith, leb-true n 324000000 (both (leZ (negsuc 323999999) (pos n)) (leb n 324000000) h .1))
 degrees-below latitude (negsuc n) h = omega (arith, leb-true n 323999999 (both (leb n 323999999) true h .0))
 degrees-below longitude (pos n) h = omega (arith, leb-true n 1295999999 (both (leb 0 n) (leb n 1295999999) h .1))

@@ -1,5 +1,5 @@
 -- `kinds::converted` meets its contract: of two 4-byte numbers nothing on the way is past an i64. Assumes nothing.
-use Prim.Native.Nat.{_+_, _*_, _≤_, _^_}
+use Prim.Native.Nat.{_*_, _≤_, _^_}
 use native.Mathlib.Omega.{arith}
 use lib.IntN.{ℤ, pos, natAbs, _+ℤ_, _*ℤ_}
 use mir.Syntax.{w32, w64}

@@ -1,7 +1,6 @@
 -- `position::spelled` meets its contract. Assumes nothing.
 use native.Mathlib.Nat.{div-one}
 use borrow.Author.Needs.{needs}
-use Rattle.position.specs.Text.{spelled}
 use Rattle.position.specs.Text.{digits, spelled}
 use Rattle.position.proofs.spelled.Statement.{statement}
 use Rattle.position.proofs.spelled.Tie as tie
