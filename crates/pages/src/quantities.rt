@@ -66,8 +66,7 @@ fn converted(ms: i64, shift: i64) {
     }
 }
 
-pub(crate) fn all() {
-    io::write_all(STDOUT_FILENO, b"\nkinds");
+fn numbers() {
     refused(Refusal::Length);
     refused(Refusal::Kind);
     refused(Refusal::Range);
@@ -77,6 +76,9 @@ pub(crate) fn all() {
     refused(Refusal::Room);
     refused(Refusal::Foreign);
     refused(Refusal::Sheet);
+}
+
+fn below() {
     made(-9_223_372_036_854_775_808);
     made(-32_400_000_001);
     made(-32_400_000_000);
@@ -86,6 +88,9 @@ pub(crate) fn all() {
     made(-324_000_000);
     made(-1);
     made(0);
+}
+
+fn above() {
     made(1);
     made(324_000_000);
     made(324_000_001);
@@ -99,10 +104,21 @@ pub(crate) fn all() {
     made(129_599_999_999);
     made(129_600_000_000);
     made(9_223_372_036_854_775_807);
+}
+
+fn conversions() {
     converted(126_000_000, -384_288);
     converted(118_800_000, -110_294);
     converted(0, -1);
     converted(-324_000_000, -2_147_483_648);
     converted(324_000_000, 2_147_483_647);
     converted(1_295_999_999, 2_147_483_647);
+}
+
+pub(crate) fn all() {
+    io::write_all(STDOUT_FILENO, b"\nkinds");
+    numbers();
+    below();
+    above();
+    conversions();
 }

@@ -118,7 +118,7 @@ fn write(ms: i64) {
     into(ms, 14);
 }
 
-fn table() {
+fn ranges() {
     read(b"900000.000N");
     read(b"900000.001N");
     read(b"900000.000S");
@@ -138,6 +138,9 @@ fn table() {
     read(b"0322806.026E");
     read(b"091909.051N");
     read(b"0121350.125E");
+}
+
+fn forms() {
     read(b"344323.316n");
     read(b"344323.316s");
     read(b"0322806.026e");
@@ -171,13 +174,7 @@ fn bytes(text: [u8; 12]) {
     bytes_at(&mut t, 11);
 }
 
-pub(crate) fn all() {
-    io::write_all(STDOUT_FILENO, b"\nposition");
-    table();
-    bytes(*b"0344323.316N");
-    bytes(*b"0322806.026E");
-    lengths(b"344323.316N344323.31");
-    lengths(b"0322806.026E0322806.");
+fn numbers() {
     write(-9_223_372_036_854_775_808);
     write(-324_000_001);
     write(-324_000_000);
@@ -193,4 +190,15 @@ pub(crate) fn all() {
     write(1_296_000_000);
     write(4_294_967_296);
     write(9_223_372_036_854_775_807);
+}
+
+pub(crate) fn all() {
+    io::write_all(STDOUT_FILENO, b"\nposition");
+    ranges();
+    forms();
+    bytes(*b"0344323.316N");
+    bytes(*b"0322806.026E");
+    lengths(b"344323.316N344323.31");
+    lengths(b"0322806.026E0322806.");
+    numbers();
 }
