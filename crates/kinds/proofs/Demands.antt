@@ -1,4 +1,5 @@
--- What document 01 asks of refusals, of lent buffers and of the answers' cases. Stated over specs/ alone. Assumes nothing.
+-- What document 01 asks of refusals, of lent buffers and of the answers' cases, and document 02's worked conversion. Stated
+-- over specs/ alone. Assumes nothing.
 use mathlib.Core.Path.{_≡_, refl, ap}
 use mathlib.Core.List.{List}
 use Prim.Native.Nat.{ℕ, _≤_}

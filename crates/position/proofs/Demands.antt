@@ -1,4 +1,5 @@
--- What document 01 asks of positions as text, of latitude and longitude alike. Stated over specs/ alone. Assumes nothing.
+-- What document 01 asks of positions as text, of latitude and longitude alike but for the points worked at the end. Stated
+-- over specs/ alone. Assumes nothing.
 use mathlib.Core.Path.{_≡_, refl, sym, ap, _∙_, subst}
 use mathlib.Core.Bool.{Bool, true, false, _&&_, and-true, and-assoc}
 use mathlib.Core.List.{List, [], _∷_, _++_}
@@ -142,7 +143,7 @@ written-7 k x room = refusals.written-7 k x room
 pub written-one-of : (k : Coordinate) (x : ℤ) (room n : ℕ) → write k x room ≡ refused n → (n ≡ 3) ⊎ (n ≡ 7)
 written-one-of k x room n h = refusals.written-one-of k x room n h
 
--- the orders, where two refusals are due
+-- the orders, at points where two refusals are due
 pub record Orders : Type 0 where
   -- x: a wrong length and a wrong byte
   pub length-first : read latitude (120 ∷ []) ≡ refused 1
