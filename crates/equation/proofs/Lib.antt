@@ -1,0 +1,9 @@
+-- The laws, by what they are about. Another crate cites them as `Rattle.equation.proofs.NAME`.
+-- the powers: which stands where, and how large it can be
+pub mod Steps
+-- a sum: one term more, a term of three columns, how large it is
+pub mod Sums
+-- what a computed test of a table shows of its sum at every u and v within limits
+pub mod Limits
+-- what document 01 asks of an equation
+pub mod Demands
