@@ -56,8 +56,7 @@ module _ {mu mv : ℕ} (u v : ℤ) (hu : natAbs u ≤ mu) (hv : natAbs v ≤ mv)
       let a = and-yes (ltb i 10) (ltb j 10 && ltb (limit mu i * limit mv j) 9223372036854775808) h in
       let b = and-yes (ltb j 10) (ltb (limit mu i * limit mv j) 9223372036854775808) (a .1) in
       let i-low = ltb→lt i 10 (a .0) in
-      let j-low = ltb→lt j 10 (b .0) in
-      (
+      let j-low = ltb→lt j 10 (b .0) in (
         i-low,
         j-low,
         lt-of-le-of-lt (abs-*-≤ (getD pu i (pos 0)) (getD pv j (pos 0)) (at-u i i-low) (at-v j j-low))

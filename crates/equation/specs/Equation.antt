@@ -10,8 +10,7 @@ pub data Term : Type 0 where
   term : ℤ → ℕ → ℕ → Term
 
 -- the same as the page has it, with its sign
-infix 20 plus_U^_V^_ minus_U^_V^_
-
+infix 90 plus_U^_V^_ minus_U^_V^_
 abbrev pub plus_U^_V^_ : ℕ → ℕ → ℕ → Term
 plus c U^ i V^ j = term (pos c) i j
 

@@ -1,6 +1,7 @@
 // The kinds of quantity: latitude and longitude on the local datum and on WGS 84, the shift of an angle, and height; and why
-// a call is refused. Outside this crate a kind is made by `new`, which tests a raw number (a WGS 84 position also by `shifted`,
-// which does not), and read by a method: code that takes one kind, or a bare number, for another kind does not build.
+// a call is refused. Outside this crate a kind is made by `new`, which tests a raw number (a shift and a height also by `of`,
+// from 4 bytes, any of which are one; a WGS 84 position also by `shifted`, which does not test), and read by a method: code that
+// takes one kind, or a bare number, for another kind does not build.
 ghost use mathlib.Core.Path.{_≡_};
 ghost use Rattle.kinds.specs.Answer.{numberOf};
 ghost use Rattle.kinds.specs.Cases.{localLatitude, localLongitude, wgs84Latitude, wgs84Longitude, angleShift, height};
@@ -165,6 +166,13 @@ impl AngleShift {
         }
     }
 
+    // Of a number that is held in 4 bytes already, and needs no test.
+    pub fn of(units: i32) -> AngleShift
+        ensures { λ r. ⌜ r .0 ≡ units ⌝ }
+    {
+        AngleShift(units)
+    }
+
     pub fn units(self) -> i32
         ensures { λ r. ⌜ r ≡ self .0 ⌝ }
     {
@@ -198,6 +206,13 @@ impl Height {
         } else {
             HeightAnswer::Refused(Refusal::Range)
         }
+    }
+
+    // Of a number that is held in 4 bytes already, and needs no test.
+    pub fn of(mm: i32) -> Height
+        ensures { λ r. ⌜ r .0 ≡ mm ⌝ }
+    {
+        Height(mm)
     }
 
     pub fn mm(self) -> i32

@@ -11,9 +11,9 @@ use lib.Dec.{T, ltb, ltb→lt}
 use lib.IntN.{ℤ, pos, negsuc, negℤ, natAbs, _-ℤ_, +ℤ-idl}
 use lib.Signed.{mag, natAbs-le, nonNeg}
 use lib.Pow.{pow-pos}
-use mir.Syntax.{Width}
+use mir.Syntax.{Width, w32, w64}
 use mir.Val.{bits, hbits, Fits, SFits, toZ, ofZ}
-use mir.Facts.{toZ-ofZ, toZ-pos}
+use mir.Facts.{toZ-ofZ, toZ-pos, sfits-widen}
 
 pub record Holds (w : Width) (a : ℕ) (x : ℤ) : Type 0 where
   pub reads : toZ w a ≡ x
@@ -83,6 +83,13 @@ cast v p f = to (p .reads) (of (subst (SFits v) (sym (p .reads)) f))
 
 pub cast-asks : {w v : Width} {a : ℕ} {x : ℤ} → Holds w a x → SFits v x → SFits v (toZ w a)
 cast-asks {v = v} p f = subst (SFits v) (sym (p .reads)) f
+
+-- a 4-byte number as an i64
+pub widened : {x : ℤ} → SFits w32 x → Holds w64 (ofZ w64 (toZ w32 (ofZ w32 x))) x
+widened f = cast w64 (of f) (sfits-widen tt f)
+
+pub widened-asks : {x : ℤ} → SFits w32 x → SFits w64 (toZ w32 (ofZ w32 x))
+widened-asks f = cast-asks (of f) (sfits-widen tt f)
 
 -- a signed word made an unsigned one is its size
 pub to-unsigned : {w : Width} {a n : ℕ} → Holds w a (pos n) → natAbs (toZ w a) ≡ n

@@ -4,15 +4,10 @@ use native.Mathlib.Omega.{arith}
 use lib.IntN.{ℤ, pos, natAbs, _+ℤ_, _*ℤ_}
 use mir.Syntax.{w32, w64}
 use mir.Val.{SFits, toZ, ofZ}
-use mir.Facts.{sfits-widen}
 use Rattle.whole.proofs.Sizes.{abs-+, abs-*}
-use Rattle.whole.proofs.Words.{Holds, wr, of, lit, asks, gives, cast, cast-asks, small, sized}
+use Rattle.whole.proofs.Words.{Holds, wr, lit, asks, gives, widened, widened-asks, small, sized}
 use Rattle.kinds.proofs.converted.Statement.{statement}
 use Rattle.kinds.proofs.converted.Tie as tie
-
--- a 4-byte number, as an i64
-widened : {x : ℤ} → SFits w32 x → Holds w64 (ofZ w64 (toZ w32 (ofZ w32 x))) x
-widened f = cast w64 (of f) (sfits-widen tt f)
 
 module _ (c : tie.Start) where
   abbrev ms : ℤ
@@ -37,13 +32,13 @@ shift-fits : (c : tie.After-struct-told) → SFits w32 (shift (c .before .before
 shift-fits c = record { sfits = c .struct-told .given .0 .1 }
 
 cast-result : tie.Need-cast-result
-cast-result c = cast-asks (of (c .fits .ms)) (sfits-widen tt (c .fits .ms))
+cast-result c = widened-asks (c .fits .ms)
 
 mul-result : tie.Need-mul-result
 mul-result c = asks _*ℤ_ (lit 100 tt) (widened (c .fits .ms)) (product-fits c)
 
 cast-result-2 : tie.Need-cast-result-2
-cast-result-2 c = cast-asks (of (shift-fits c)) (sfits-widen tt (shift-fits c))
+cast-result-2 c = widened-asks (shift-fits c)
 
 add-result : tie.Need-add-result
 add-result c = asks _+ℤ_ (product-is (c .before .before)) (widened (shift-fits c)) (sum-fits (c .before .before) (shift-fits c))

@@ -1,0 +1,50 @@
+-- Which code has which page, as the code tests it. Assumes nothing.
+use mathlib.Core.Path.{_≡_, refl, sym, ap, _∙_}
+use mathlib.Core.Bool.{Bool, true, false, false≢true}
+use Prim.Native.Nat.{ℕ, zero, suc, _≤_}
+use native.Mathlib.Omega.{arith}
+use lib.IntN.{ℤ, pos, negsuc}
+use lib.Signed.{leZ}
+use borrow.Author.Tests.{leb-true}
+use mir.Syntax.{w64}
+use mir.Val.{SFits, toZ, ofZ}
+use mir.Facts.{toZ-ofZ}
+use Rattle.whole.proofs.Bools.{both}
+use Rattle.kinds.specs.Answer.{Answer, gives, refused, provided}
+use Rattle.datum.specs.Page.{Page}
+use Rattle.datum.specs.Point.{isCode, pageOf}
+
+abbrev pub codePage : ℤ → Answer Page
+codePage code = provided (isCode code) 4 (gives (pageOf code))
+
+module _ {code : ℤ} (f : SFits w64 code) where
+  pub listed : (n : ℕ) → ofZ w64 code ≡ n → codePage (toZ w64 n) ≡ codePage code
+  listed n e = ap codePage (sym (ap (toZ w64) e) ∙ toZ-ofZ f)
+
+  -- a number that is none of the six
+  abbrev pub Not : ℕ → Type 0
+  Not n = ofZ w64 code ≡ n → ⊥
+
+  pub unlisted : (((((Unit {0} × Not 1) × Not 2) × Not 3) × Not 4) × Not 5) × Not 6 → refused 4 ≡ codePage code
+  unlisted none = go (isCode code) refl
+    where
+      is : (n : ℕ) → code ≡ pos n → ofZ w64 code ≡ ofZ w64 (pos n)
+      is n e = ap (ofZ w64) e
+
+      one-of : (n : ℕ) → code ≡ pos n → 1 ≤ n → n ≤ 6 → ⊥
+      one-of zero e h k = omega arith
+      one-of (suc zero) e h k = none .0 .0 .0 .0 .0 .1 (is 1 e)
+      one-of (suc (suc zero)) e h k = none .0 .0 .0 .0 .1 (is 2 e)
+      one-of (suc (suc (suc zero))) e h k = none .0 .0 .0 .1 (is 3 e)
+      one-of (suc (suc (suc (suc zero)))) e h k = none .0 .0 .1 (is 4 e)
+      one-of (suc (suc (suc (suc (suc zero))))) e h k = none .0 .1 (is 5 e)
+      one-of (suc (suc (suc (suc (suc (suc zero)))))) e h k = none .1 (is 6 e)
+      one-of (suc (suc (suc (suc (suc (suc (suc n))))))) e h k = omega arith
+
+      from : (z : ℤ) → code ≡ z → isCode z ≡ true → ⊥
+      from (pos n) e t = let h = both (leZ (pos 1) (pos n)) (leZ (pos n) (pos 6)) t in one-of n e (leb-true 1 n (h .0)) (leb-true n 6 (h .1))
+      from (negsuc n) e t = false≢true t
+
+      go : (b : Bool) → isCode code ≡ b → refused 4 ≡ provided b 4 (gives (pageOf code))
+      go true t = absurd (from code refl t)
+      go false t = refl

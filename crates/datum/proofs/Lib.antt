@@ -1,0 +1,5 @@
+-- The laws, by what they are about.
+-- which code has which page
+pub mod Codes
+pub mod Answered
+pub mod Places

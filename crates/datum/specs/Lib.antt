@@ -1,0 +1,10 @@
+pub mod Page
+pub mod Cyprus
+pub mod Minna
+pub mod Alaska
+pub mod Qatar
+pub mod Kandawala
+pub mod Nahrwan
+pub mod Point
+pub mod Cases
+pub mod Asked

@@ -1,0 +1,24 @@
+-- What document 000 has on the page of a datum, and the area that document 01 sets for it.
+use mathlib.Core.List.{List}
+use Prim.Native.Nat.{ℕ, _+_, _*_}
+use Rattle.equation.specs.Equation.{Term}
+
+-- of a shift datum, one for each of dLat, dLon and dH; of a geoid datum, one for N
+pub data Family (A : Type 0) : Type 0 where
+  shift : A → A → A → Family A
+  geoid : A → Family A
+
+-- the centre and the ends of the area in ms, K in hundred-millionths, and the equations
+pub record Page : Type 0 where
+  pub latitude : ℕ
+  pub longitude : ℕ
+  pub k : ℕ
+  pub south : ℕ
+  pub north : ℕ
+  pub west : ℕ
+  pub east : ℕ
+  pub equations : Family (List Term)
+
+-- degrees and minutes, in ms
+abbrev pub at : ℕ → ℕ → ℕ
+at degrees minutes = (60 * degrees + minutes) * 60000

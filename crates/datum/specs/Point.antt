@@ -1,0 +1,78 @@
+-- Document 01, 'The six areas', 'The working rule' and 'Refusal numbers': the answer of a point.
+use mathlib.Core.Bool.{Bool, true, false, not, _&&_}
+use mathlib.Core.List.{List, [], _∷_}
+use Prim.Native.Nat.{_-_}
+use lib.IntN.{ℤ, pos, natAbs, _-ℤ_, _*ℤ_}
+use lib.ListN.{getD}
+use Rattle.whole.specs.Round.{roundDiv, scale}
+use Rattle.kinds.specs.Answer.{Answer, gives, provided}
+use Rattle.kinds.specs.Kinds.{within, isLatitude, isLongitude}
+use Rattle.equation.specs.Powers.{powersOf}
+use Rattle.equation.specs.Equation.{Term, equationOf}
+use Rattle.datum.specs.Page.{Page, Family, shift, geoid}
+use Rattle.datum.specs.Cyprus.{cyprus}
+use Rattle.datum.specs.Minna.{minna}
+use Rattle.datum.specs.Alaska.{alaska}
+use Rattle.datum.specs.Qatar.{qatar}
+use Rattle.datum.specs.Kandawala.{kandawala}
+use Rattle.datum.specs.Nahrwan.{nahrwan}
+
+-- ---- the six codes
+abbrev pub isCode : ℤ → Bool
+isCode code = within (pos 1) (pos 6) code
+
+-- their pages, in order
+abbrev pub pages : List Page
+pages = cyprus ∷ minna ∷ alaska ∷ qatar ∷ kandawala ∷ nahrwan ∷ []
+
+abbrev pub pageOf : ℤ → Page
+pageOf code = getD pages (natAbs code - 1) cyprus
+
+-- the area: both ends belong to it
+abbrev pub inArea : Page → ℤ → ℤ → Bool
+inArea page latitude longitude = within (pos (page .south)) (pos (page .north)) latitude && within (pos (page .west)) (pos (page .east)) longitude
+
+-- ---- the working rule
+-- 1. K times the latitude less the centre's, divided by 3,600,000 and rounded; longitude likewise
+abbrev pub fromCentre : ℤ → ℤ → ℤ → ℤ
+fromCentre k centre x = roundDiv (k *ℤ (x -ℤ centre)) 3600000
+
+-- 2. the ten powers of u and of v
+abbrev pub powersU : Page → ℤ → List ℤ
+powersU page latitude = powersOf (fromCentre (pos (page .k)) (pos (page .latitude)) latitude) 10
+
+abbrev pub powersV : Page → ℤ → List ℤ
+powersV page longitude = powersOf (fromCentre (pos (page .k)) (pos (page .longitude)) longitude) 10
+
+-- 3. and 4. each equation: dLat and dLon in 0.00001", dH and N in mm
+abbrev pub evaluated : Family (List Term) → List ℤ → List ℤ → Family ℤ
+evaluated (shift dLat dLon dH) pu pv = shift (equationOf scale dLat pu pv) (equationOf scale dLon pu pv) (equationOf scale dH pu pv)
+evaluated (geoid n) pu pv = geoid (equationOf scale n pu pv)
+
+-- ---- the answer
+abbrev pub pointOf : Page → ℤ → ℤ → Answer (Family ℤ)
+pointOf page latitude longitude =
+    provided (isLatitude latitude && isLongitude longitude) 3
+    (provided (inArea page latitude longitude) 6
+    (gives (evaluated (page .equations) (powersU page latitude) (powersV page longitude))))
+
+-- of both families: 4, 3, 6
+abbrev pub answerOf : ℤ → ℤ → ℤ → Answer (Family ℤ)
+answerOf code latitude longitude = provided (isCode code) 4 (pointOf (pageOf code) latitude longitude)
+
+-- of one family: 4, 5, 3, 6
+abbrev pub isShift : {A : Type 0} → Family A → Bool
+isShift (shift a b c) = true
+isShift (geoid n) = false
+
+abbrev pub shiftOf : ℤ → ℤ → ℤ → Answer (Family ℤ)
+shiftOf code latitude longitude =
+    provided (isCode code) 4
+    (provided (isShift (pageOf code .equations)) 5
+    (pointOf (pageOf code) latitude longitude))
+
+abbrev pub geoidOf : ℤ → ℤ → ℤ → Answer (Family ℤ)
+geoidOf code latitude longitude =
+    provided (isCode code) 4
+    (provided (not (isShift (pageOf code .equations))) 5
+    (pointOf (pageOf code) latitude longitude))
