@@ -3,6 +3,7 @@ use mathlib.Core.Path.{_≡_, refl, sym, ap, _∙_}
 use mathlib.Core.Bool.{Bool, true, false, false≢true}
 use Prim.Native.Nat.{ℕ, zero, suc, _≤_}
 use native.Mathlib.Omega.{arith}
+use lib.Dec.{T, lit<}
 use lib.IntN.{ℤ, pos, negsuc}
 use lib.Signed.{leZ}
 use borrow.Author.Tests.{leb-true}
@@ -13,6 +14,12 @@ use Rattle.whole.proofs.Bools.{both}
 use Rattle.kinds.specs.Answer.{Answer, gives, refused, provided}
 use Rattle.datum.specs.Page.{Page}
 use Rattle.datum.specs.Point.{isCode, pageOf}
+use Rattle.datum.specs.Cases.{shiftPage, geoidPage}
+use Rattle.datum.specs.declared.ShiftDatum.{ShiftDatum}
+use Rattle.datum.specs.declared.ShiftDatum.the-variants.{Cyprus, Minna, Alaska, Qatar}
+use Rattle.datum.specs.declared.GeoidDatum.{GeoidDatum}
+use Rattle.datum.specs.declared.GeoidDatum.the-variants.{Kandawala, Nahrwan}
+use Rattle.datum.proofs.Limits.{page-keeps, six-keep}
 
 abbrev pub codePage : ℤ → Answer Page
 codePage code = provided (isCode code) 4 (gives (pageOf code))
@@ -48,3 +55,14 @@ module _ {code : ℤ} (f : SFits w64 code) where
       go : (b : Bool) → isCode code ≡ b → refused 4 ≡ provided b 4 (gives (pageOf code))
       go true t = absurd (from code refl t)
       go false t = refl
+
+-- the pages of the code's datums are among the six
+pub shift-keeps : (d : ShiftDatum) → T (page-keeps (shiftPage d))
+shift-keeps Cyprus = six-keep 0 (lit< tt)
+shift-keeps Minna = six-keep 1 (lit< tt)
+shift-keeps Alaska = six-keep 2 (lit< tt)
+shift-keeps Qatar = six-keep 3 (lit< tt)
+
+pub geoid-keeps : (d : GeoidDatum) → T (page-keeps (geoidPage d))
+geoid-keeps Kandawala = six-keep 4 (lit< tt)
+geoid-keeps Nahrwan = six-keep 5 (lit< tt)

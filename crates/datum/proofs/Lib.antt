@@ -3,3 +3,6 @@
 pub mod Codes
 pub mod Answered
 pub mod Places
+pub mod Limits
+pub mod Points
+pub mod Calls

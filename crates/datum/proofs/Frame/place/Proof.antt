@@ -36,7 +36,7 @@ enum-told-2 c = search needs
 -- the latitude was taken
 module _ (c : tie.After-new2) where
   abbrev s : tie.Start
-  s = c .before .before .before .before .before 
+  s = c .before .before .before .before .before
 
   latitude-in : (isLatitude (s .args .latitude) ≡ true) × (c .before .before .local-latitude .given .0 .0 .0 ≡ s .args .latitude)
   latitude-in =
@@ -55,7 +55,7 @@ holds-requires c κs = search needs
 -- so was the longitude, and the area was tested
 module _ (c : tie.After-holds) where
   abbrev t : tie.After-new2
-  t = c .before .before .before .before 
+  t = c .before .before .before .before
 
   longitude-in : (isLongitude (s t .args .longitude) ≡ true) × (c .before .before .local-longitude .given .0 .0 .0 ≡ s t .args .longitude)
   longitude-in =

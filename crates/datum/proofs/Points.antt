@@ -1,0 +1,60 @@
+-- A point's answer from its place: of any page that keeps its limits. Assumes nothing.
+use mathlib.Core.Path.{_≡_, refl, sym, ap, _∙_, subst}
+use mathlib.Core.Bool.{Bool, true, false, _&&_}
+use mathlib.Core.List.{List}
+use Prim.Native.Nat.{ℕ, _≤_}
+use lib.Dec.{T}
+use lib.IntN.{ℤ, pos, natAbs}
+use Rattle.kinds.specs.Answer.{Answer, gives, refused, provided}
+use Rattle.kinds.specs.Kinds.{isLatitude, isLongitude}
+use Rattle.kinds.proofs.Answers.{passed, same-value}
+use Rattle.equation.specs.Powers.{powersOf}
+use Rattle.equation.specs.Equation.{Term}
+use Rattle.datum.specs.Page.{Page, Family}
+use Rattle.datum.specs.Point.{fromCentre, inArea, evaluated, powersU, powersV, pointOf}
+use Rattle.datum.specs.Cases.{frameOf, placeOf}
+use Rattle.datum.specs.Asked.{Work}
+use Rattle.datum.proofs.Limits.{page-keeps, u-small, v-small, work}
+
+-- what is left to do with a place
+abbrev finished : Family (List Term) → Answer (ℤ × ℤ) → Answer (Family ℤ)
+finished equations (gives p) = gives (evaluated equations (powersOf (p .0) 10) (powersOf (p .1) 10))
+finished equations (refused n) = refused n
+
+module _ (page : Page) (latitude longitude : ℤ) where
+  abbrev u : ℤ
+  u = fromCentre (pos (page .k)) (pos (page .latitude)) latitude
+
+  abbrev v : ℤ
+  v = fromCentre (pos (page .k)) (pos (page .longitude)) longitude
+
+  by-place : finished (page .equations) (placeOf (frameOf page) latitude longitude) ≡ pointOf page latitude longitude
+  by-place = go (isLatitude latitude && isLongitude longitude) (inArea page latitude longitude)
+    where
+      go : (a b : Bool) → finished (page .equations) (provided a 3 (provided b 6 (gives (u, v)))) ≡ provided a 3 (provided b 6 (gives (evaluated (page .equations) (powersU page latitude) (powersV page longitude))))
+      go true true = refl
+      go true false = refl
+      go false b = refl
+
+  pub not-placed : {n : ℕ} → placeOf (frameOf page) latitude longitude ≡ refused n → refused n ≡ pointOf page latitude longitude
+  not-placed e = ap (finished (page .equations)) (sym e) ∙ by-place
+
+  module _ {x y : ℤ} (e : placeOf (frameOf page) latitude longitude ≡ gives (x, y)) where
+    pub answered : gives (evaluated (page .equations) (powersOf x 10) (powersOf y 10)) ≡ pointOf page latitude longitude
+    answered = ap (finished (page .equations)) (sym e) ∙ by-place
+
+    inside : (inArea page latitude longitude ≡ true) × _≡_ {A = ℤ × ℤ} (u, v) (x, y)
+    inside =
+        let a = passed (isLatitude latitude && isLongitude longitude) 3 (provided (inArea page latitude longitude) 6 (gives (u, v))) e in
+        let b = passed (inArea page latitude longitude) 6 (gives (u, v)) (a .1) in
+        (b .0, same-value (b .1))
+
+    module _ (h : T (page-keeps page)) where
+      pub x-small : natAbs x ≤ 1000000000
+      x-small = subst (λ (p : ℤ × ℤ). natAbs (p .0) ≤ 1000000000) (inside .1) (u-small page h latitude longitude (inside .0))
+
+      pub y-small : natAbs y ≤ 1000000000
+      y-small = subst (λ (p : ℤ × ℤ). natAbs (p .1) ≤ 1000000000) (inside .1) (v-small page h latitude longitude (inside .0))
+
+      pub works : Work (page .equations) (powersOf x 10) (powersOf y 10)
+      works = subst (λ (p : ℤ × ℤ). Work (page .equations) (powersOf (p .0) 10) (powersOf (p .1) 10)) (inside .1) (work page h latitude longitude (inside .0))
