@@ -1,12 +1,13 @@
 -- What a call says of a code, by the page that the code has. Assumes nothing.
 use mathlib.Core.Path.{_≡_, refl, sym, ap, _∙_}
 use mathlib.Core.Bool.{Bool, true, false, not}
-use Prim.Native.Nat.{ℕ}
+use mathlib.Core.List.{List}
 use lib.IntN.{ℤ}
+use Rattle.equation.specs.Equation.{Term}
 use Rattle.kinds.specs.Answer.{Answer, gives, refused, provided}
 use Rattle.kinds.proofs.Answers.{passed, failed, same-value}
-use Rattle.datum.specs.Page.{Page, Family}
-use Rattle.datum.specs.Point.{isCode, pageOf, isShift, pointOf, answerOf, shiftOf, geoidOf}
+use Rattle.datum.specs.Page.{Page, Family, isShift, isGeoid, isEither}
+use Rattle.datum.specs.Point.{isCode, pageOf, pointOf, asked, answerOf, shiftOf, geoidOf}
 use Rattle.datum.specs.Cases.{shiftPage, geoidPage}
 use Rattle.datum.specs.declared.ShiftDatum.{ShiftDatum}
 use Rattle.datum.specs.declared.ShiftDatum.the-variants.{Cyprus, Minna, Alaska, Qatar}
@@ -25,56 +26,44 @@ is-geoid : (d : GeoidDatum) → isShift (geoidPage d .equations) ≡ false
 is-geoid Kandawala = refl
 is-geoid Nahrwan = refl
 
--- what is asked of the page of a code
-module _ (asked : Page → Answer (Family ℤ)) (code : ℤ) where
-  of-page : {page : Page} → codePage code ≡ gives page → asked page ≡ provided (isCode code) 4 (asked (pageOf code))
-  of-page e =
-      let p = passed (isCode code) 4 (gives (pageOf code)) e in
-      ap asked (sym (same-value (p .1))) ∙ (λ i. provided (sym (p .0) i) 4 (asked (pageOf code)))
-
-  of-none : {n : ℕ} → codePage code ≡ refused n → refused 4 ≡ provided (isCode code) 4 (asked (pageOf code))
-  of-none e = λ i. provided (sym (failed (isCode code) 4 (pageOf code) e .0) i) 4 (asked (pageOf code))
-
-module _ (code latitude longitude : ℤ) where
+-- a call that asks of a family
+module _ (family : Family (List Term) → Bool) (code latitude longitude : ℤ) where
   abbrev point : Page → Answer (Family ℤ)
   point page = pointOf page latitude longitude
 
-  -- a shift is asked, or a geoid height
-  abbrev shifted : Page → Answer (Family ℤ)
-  shifted page = provided (isShift (page .equations)) 5 (point page)
+  of-page : (page : Page) → codePage code ≡ gives page → provided (family (page .equations)) 5 (point page) ≡ asked family code latitude longitude
+  of-page page e =
+      let p = passed (isCode code) 4 (gives (pageOf code)) e in
+      ap (λ (x : Page). provided (family (x .equations)) 5 (point x)) (sym (same-value (p .1)))
+      ∙ (λ i. provided (sym (p .0) i) 4 (provided (family (pageOf code .equations)) 5 (point (pageOf code))))
 
-  abbrev raised : Page → Answer (Family ℤ)
-  raised page = provided (not (isShift (page .equations))) 5 (point page)
+  -- a datum of the family, a datum of the other, and none
+  right : (page : Page) → family (page .equations) ≡ true → codePage code ≡ gives page → point page ≡ asked family code latitude longitude
+  right page h e = (λ i. provided (sym h i) 5 (point page)) ∙ of-page page e
 
-  -- of a shift datum
+  wrong : (page : Page) → family (page .equations) ≡ false → codePage code ≡ gives page → refused 5 ≡ asked family code latitude longitude
+  wrong page h e = (λ i. provided (sym h i) 5 (point page)) ∙ of-page page e
+
+  pub none : codePage code ≡ refused 4 → refused 4 ≡ asked family code latitude longitude
+  none e = λ i. provided (sym (failed (isCode code) 4 (pageOf code) e .0) i) 4 (provided (family (pageOf code .equations)) 5 (point (pageOf code)))
+
+module _ (code latitude longitude : ℤ) where
   module _ (d : ShiftDatum) (e : codePage code ≡ gives (shiftPage d)) where
-    pub shift-answer : point (shiftPage d) ≡ answerOf code latitude longitude
-    shift-answer = of-page point code e
+    pub shift-answer : pointOf (shiftPage d) latitude longitude ≡ answerOf code latitude longitude
+    shift-answer = right isEither code latitude longitude (shiftPage d) refl e
 
-    pub shift-shift : point (shiftPage d) ≡ shiftOf code latitude longitude
-    shift-shift = (λ i. provided (sym (is-shift d) i) 5 (point (shiftPage d))) ∙ of-page shifted code e
+    pub shift-shift : pointOf (shiftPage d) latitude longitude ≡ shiftOf code latitude longitude
+    shift-shift = right isShift code latitude longitude (shiftPage d) (is-shift d) e
 
     pub shift-geoid : refused 5 ≡ geoidOf code latitude longitude
-    shift-geoid = (λ i. provided (not (sym (is-shift d) i)) 5 (point (shiftPage d))) ∙ of-page raised code e
+    shift-geoid = wrong isGeoid code latitude longitude (shiftPage d) (ap not (is-shift d)) e
 
-  -- of a geoid datum
   module _ (d : GeoidDatum) (e : codePage code ≡ gives (geoidPage d)) where
-    pub geoid-answer : point (geoidPage d) ≡ answerOf code latitude longitude
-    geoid-answer = of-page point code e
+    pub geoid-answer : pointOf (geoidPage d) latitude longitude ≡ answerOf code latitude longitude
+    geoid-answer = right isEither code latitude longitude (geoidPage d) refl e
 
     pub geoid-shift : refused 5 ≡ shiftOf code latitude longitude
-    geoid-shift = (λ i. provided (sym (is-geoid d) i) 5 (point (geoidPage d))) ∙ of-page shifted code e
+    geoid-shift = wrong isShift code latitude longitude (geoidPage d) (is-geoid d) e
 
-    pub geoid-geoid : point (geoidPage d) ≡ geoidOf code latitude longitude
-    geoid-geoid = (λ i. provided (not (sym (is-geoid d) i)) 5 (point (geoidPage d))) ∙ of-page raised code e
-
-  -- of none
-  module _ (e : codePage code ≡ refused 4) where
-    pub none-answer : refused 4 ≡ answerOf code latitude longitude
-    none-answer = of-none point code e
-
-    pub none-shift : refused 4 ≡ shiftOf code latitude longitude
-    none-shift = of-none shifted code e
-
-    pub none-geoid : refused 4 ≡ geoidOf code latitude longitude
-    none-geoid = of-none raised code e
+    pub geoid-geoid : pointOf (geoidPage d) latitude longitude ≡ geoidOf code latitude longitude
+    geoid-geoid = right isGeoid code latitude longitude (geoidPage d) (ap not (is-geoid d)) e

@@ -21,6 +21,23 @@ use Rattle.datum.specs.declared.GeoidDatum.{GeoidDatum}
 use Rattle.datum.specs.declared.GeoidDatum.the-variants.{Kandawala, Nahrwan}
 use Rattle.datum.proofs.Limits.{page-keeps, six-keep}
 
+-- what holds of 1 to 6 holds of every code
+pub six : (P : ℤ → Type 0) → P (pos 1) → P (pos 2) → P (pos 3) → P (pos 4) → P (pos 5) → P (pos 6) → (code : ℤ) → isCode code ≡ true → P code
+six P p₁ p₂ p₃ p₄ p₅ p₆ (negsuc n) t = absurd (false≢true t)
+six P p₁ p₂ p₃ p₄ p₅ p₆ (pos n) t =
+    let h = both (leZ (pos 1) (pos n)) (leZ (pos n) (pos 6)) t in
+    go n (leb-true 1 n (h .0)) (leb-true n 6 (h .1))
+  where
+    go : (n : ℕ) → 1 ≤ n → n ≤ 6 → P (pos n)
+    go zero h k = absurd (omega arith)
+    go (suc zero) h k = p₁
+    go (suc (suc zero)) h k = p₂
+    go (suc (suc (suc zero))) h k = p₃
+    go (suc (suc (suc (suc zero)))) h k = p₄
+    go (suc (suc (suc (suc (suc zero))))) h k = p₅
+    go (suc (suc (suc (suc (suc (suc zero)))))) h k = p₆
+    go (suc (suc (suc (suc (suc (suc (suc n))))))) h k = absurd (omega arith)
+
 abbrev pub codePage : ℤ → Answer Page
 codePage code = provided (isCode code) 4 (gives (pageOf code))
 
@@ -29,7 +46,7 @@ module _ {code : ℤ} (f : SFits w64 code) where
   listed n e = ap codePage (sym (ap (toZ w64) e) ∙ toZ-ofZ f)
 
   -- a number that is none of the six
-  abbrev pub Not : ℕ → Type 0
+  abbrev Not : ℕ → Type 0
   Not n = ofZ w64 code ≡ n → ⊥
 
   pub unlisted : (((((Unit {0} × Not 1) × Not 2) × Not 3) × Not 4) × Not 5) × Not 6 → refused 4 ≡ codePage code
@@ -38,22 +55,16 @@ module _ {code : ℤ} (f : SFits w64 code) where
       is : (n : ℕ) → code ≡ pos n → ofZ w64 code ≡ ofZ w64 (pos n)
       is n e = ap (ofZ w64) e
 
-      one-of : (n : ℕ) → code ≡ pos n → 1 ≤ n → n ≤ 6 → ⊥
-      one-of zero e h k = omega arith
-      one-of (suc zero) e h k = none .0 .0 .0 .0 .0 .1 (is 1 e)
-      one-of (suc (suc zero)) e h k = none .0 .0 .0 .0 .1 (is 2 e)
-      one-of (suc (suc (suc zero))) e h k = none .0 .0 .0 .1 (is 3 e)
-      one-of (suc (suc (suc (suc zero)))) e h k = none .0 .0 .1 (is 4 e)
-      one-of (suc (suc (suc (suc (suc zero))))) e h k = none .0 .1 (is 5 e)
-      one-of (suc (suc (suc (suc (suc (suc zero)))))) e h k = none .1 (is 6 e)
-      one-of (suc (suc (suc (suc (suc (suc (suc n))))))) e h k = omega arith
-
-      from : (z : ℤ) → code ≡ z → isCode z ≡ true → ⊥
-      from (pos n) e t = let h = both (leZ (pos 1) (pos n)) (leZ (pos n) (pos 6)) t in one-of n e (leb-true 1 n (h .0)) (leb-true n 6 (h .1))
-      from (negsuc n) e t = false≢true t
-
       go : (b : Bool) → isCode code ≡ b → refused 4 ≡ provided b 4 (gives (pageOf code))
-      go true t = absurd (from code refl t)
+      go true t =
+          absurd
+          (six (λ z. code ≡ z → ⊥)
+          (λ e. none .0 .0 .0 .0 .0 .1 (is 1 e))
+          (λ e. none .0 .0 .0 .0 .1 (is 2 e))
+          (λ e. none .0 .0 .0 .1 (is 3 e))
+          (λ e. none .0 .0 .1 (is 4 e))
+          (λ e. none .0 .1 (is 5 e))
+          (λ e. none .1 (is 6 e)) code t refl)
       go false t = refl
 
 -- the pages of the code's datums are among the six

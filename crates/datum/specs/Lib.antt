@@ -6,5 +6,6 @@ pub mod Qatar
 pub mod Kandawala
 pub mod Nahrwan
 pub mod Point
+pub mod Tables
 pub mod Cases
 pub mod Asked

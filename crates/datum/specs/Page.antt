@@ -1,4 +1,5 @@
 -- What document 000 has on the page of a datum, and the area that document 01 sets for it.
+use mathlib.Core.Bool.{Bool, true, false, not, _&&_}
 use mathlib.Core.List.{List}
 use Prim.Native.Nat.{ℕ, _+_, _*_}
 use Rattle.equation.specs.Equation.{Term}
@@ -7,6 +8,21 @@ use Rattle.equation.specs.Equation.{Term}
 pub data Family (A : Type 0) : Type 0 where
   shift : A → A → A → Family A
   geoid : A → Family A
+
+abbrev pub isShift : {A : Type 0} → Family A → Bool
+isShift (shift a b c) = true
+isShift (geoid n) = false
+
+abbrev pub isGeoid : {A : Type 0} → Family A → Bool
+isGeoid family = not (isShift family)
+
+abbrev pub isEither : {A : Type 0} → Family A → Bool
+isEither family = true
+
+-- whether a test holds of each
+abbrev pub each : {A : Type 0} → (A → Bool) → Family A → Bool
+each test (shift a b c) = test a && (test b && test c)
+each test (geoid n) = test n
 
 -- the centre and the ends of the area in ms, K in hundred-millionths, and the equations
 pub record Page : Type 0 where

@@ -1,5 +1,5 @@
 -- Document 01, 'The six areas', 'The working rule' and 'Refusal numbers': the answer of a point.
-use mathlib.Core.Bool.{Bool, true, false, not, _&&_}
+use mathlib.Core.Bool.{Bool, _&&_}
 use mathlib.Core.List.{List, [], _∷_}
 use Prim.Native.Nat.{_-_}
 use lib.IntN.{ℤ, pos, natAbs, _-ℤ_, _*ℤ_}
@@ -9,7 +9,7 @@ use Rattle.kinds.specs.Answer.{Answer, gives, provided}
 use Rattle.kinds.specs.Kinds.{within, isLatitude, isLongitude}
 use Rattle.equation.specs.Powers.{powersOf}
 use Rattle.equation.specs.Equation.{Term, equationOf}
-use Rattle.datum.specs.Page.{Page, Family, shift, geoid}
+use Rattle.datum.specs.Page.{Page, Family, shift, geoid, isShift, isGeoid, isEither}
 use Rattle.datum.specs.Cyprus.{cyprus}
 use Rattle.datum.specs.Minna.{minna}
 use Rattle.datum.specs.Alaska.{alaska}
@@ -50,29 +50,26 @@ evaluated (shift dLat dLon dH) pu pv = shift (equationOf scale dLat pu pv) (equa
 evaluated (geoid n) pu pv = geoid (equationOf scale n pu pv)
 
 -- ---- the answer
+-- of a datum: 3, 6
 abbrev pub pointOf : Page → ℤ → ℤ → Answer (Family ℤ)
 pointOf page latitude longitude =
     provided (isLatitude latitude && isLongitude longitude) 3
     (provided (inArea page latitude longitude) 6
     (gives (evaluated (page .equations) (powersU page latitude) (powersV page longitude))))
 
--- of both families: 4, 3, 6
-abbrev pub answerOf : ℤ → ℤ → ℤ → Answer (Family ℤ)
-answerOf code latitude longitude = provided (isCode code) 4 (pointOf (pageOf code) latitude longitude)
-
--- of one family: 4, 5, 3, 6
-abbrev pub isShift : {A : Type 0} → Family A → Bool
-isShift (shift a b c) = true
-isShift (geoid n) = false
+-- of a code, asked of a family: 4, 5, 3, 6
+abbrev pub asked : (Family (List Term) → Bool) → ℤ → ℤ → ℤ → Answer (Family ℤ)
+asked family code latitude longitude =
+    provided (isCode code) 4
+    (provided (family (pageOf code .equations)) 5
+    (pointOf (pageOf code) latitude longitude))
 
 abbrev pub shiftOf : ℤ → ℤ → ℤ → Answer (Family ℤ)
-shiftOf code latitude longitude =
-    provided (isCode code) 4
-    (provided (isShift (pageOf code .equations)) 5
-    (pointOf (pageOf code) latitude longitude))
+shiftOf code latitude longitude = asked isShift code latitude longitude
 
 abbrev pub geoidOf : ℤ → ℤ → ℤ → Answer (Family ℤ)
-geoidOf code latitude longitude =
-    provided (isCode code) 4
-    (provided (not (isShift (pageOf code .equations))) 5
-    (pointOf (pageOf code) latitude longitude))
+geoidOf code latitude longitude = asked isGeoid code latitude longitude
+
+-- both families are taken
+abbrev pub answerOf : ℤ → ℤ → ℤ → Answer (Family ℤ)
+answerOf code latitude longitude = asked isEither code latitude longitude

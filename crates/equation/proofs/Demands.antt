@@ -1,0 +1,30 @@
+-- What document 01 asks of the powers and of an equation, over any table. Stated over specs/ alone. Assumes nothing.
+use mathlib.Core.Path.{_≡_, refl, sym, ap, _∙_}
+use mathlib.Core.List.{List, Perm}
+use mathlib.Core.Logic.{∥∥₁-elim}
+use Prim.Native.Nat.{ℕ, _+_, _<_, _≤_}
+use native.Mathlib.Omega.{arith}
+use lib.IntN.{ℤ, pos, _*ℤ_, ℤ-set}
+use lib.ListN.{length, getD}
+use Rattle.whole.specs.Round.{roundDiv, scale}
+use Rattle.equation.specs.Powers.{power, powersOf}
+use Rattle.equation.specs.Equation.{Term, equationOf}
+use Rattle.equation.proofs.Steps.{power-next, length-powers, powers-at}
+use Rattle.equation.proofs.Sums.{sum-any-order}
+
+-- ---- 'The ten powers of each'
+-- they are ten, the zeroth 100,000,000 and the first u
+pub ten : (u : ℤ) → (length (powersOf u 10) ≡ 10) × ((getD (powersOf u 10) 0 (pos 0) ≡ pos 100000000) × (getD (powersOf u 10) 1 (pos 0) ≡ u))
+unfolding powersOf power
+ten u = (length-powers u 10, (refl, refl))
+
+-- 'each further power is the one before times u, divided by 100,000,000 and rounded'
+pub each-by-the-one-before : (u : ℤ) (n : ℕ) → 1 ≤ n → n + 1 < 10 → getD (powersOf u 10) (n + 1) (pos 0) ≡ roundDiv (getD (powersOf u 10) n (pos 0) *ℤ u) 100000000
+each-by-the-one-before u n h k =
+    powers-at u (pos 0) 10 (n + 1) k
+    ∙ power-next u n h
+    ∙ ap (λ (x : ℤ). roundDiv (x *ℤ u) scale) (sym (powers-at u (pos 0) 10 n (omega arith)))
+
+-- ---- 'The sum .. is exact': no order of the terms gives another answer
+pub any-order : (divisor : ℕ) {ts ss : List Term} → Perm ts ss → (pu pv : List ℤ) → equationOf divisor ts pu pv ≡ equationOf divisor ss pu pv
+any-order divisor p pu pv = ∥∥₁-elim p (ℤ-set _ _) (λ d. ap (λ (x : ℤ). roundDiv x divisor) (sum-any-order pu pv d))

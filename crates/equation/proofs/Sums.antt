@@ -1,12 +1,12 @@
 -- The sum of a table's terms: one term more, a term of three columns, and how large it is. Assumes nothing.
 use mathlib.Core.Path.{_≡_, refl, sym, ap, _∙_, subst}
-use mathlib.Core.List.{List, [], _∷_, _++_}
+use mathlib.Core.List.{List, [], _∷_, _++_, List·Permᴰ, List·Permᴰ·nil, List·Permᴰ·cons, List·Permᴰ·swap, List·Permᴰ·trans}
 use Prim.Native.Nat.{ℕ, zero, suc, _+_, _*_, _<_, _≤_, zero-le}
 use native.Mathlib.Nat.{le-refl, le-trans, le-of-eq, add-le-add, not-suc-le-zero, le-of-suc-le-suc, suc-inj}
 use native.Mathlib.Omega.{arith}
 use lib.ListN.{length, getD, take}
 use lib.Seq.{take-suc}
-use lib.IntN.{ℤ, pos, natAbs, _+ℤ_, _*ℤ_, +ℤ-assoc, +ℤ-idl, +ℤ-idr}
+use lib.IntN.{ℤ, pos, natAbs, _+ℤ_, _*ℤ_, +ℤ-assoc, +ℤ-comm, +ℤ-idl, +ℤ-idr}
 use Rattle.whole.proofs.Sizes.{abs-+, abs-*}
 use Rattle.equation.specs.Equation.{Term, term, product, sum, terms}
 use Rattle.equation.specs.Room.{Fitting, Each, sizes}
@@ -91,3 +91,23 @@ module _ (pu pv : List ℤ) where
   each-at k [] e h = absurd (not-suc-le-zero h)
   each-at zero (t ∷ ts) e h = e .0
   each-at (suc k) (t ∷ ts) e h = each-at k ts (e .1) (le-of-suc-le-suc h)
+
+  -- ---- in any order
+  pub sum-any-order : {ts ss : List Term} → List·Permᴰ ts ss → sum ts pu pv ≡ sum ss pu pv
+  sum-any-order List·Permᴰ·nil = refl
+  sum-any-order (List·Permᴰ·cons {a} {b} {l₁} {l₂} e d) =
+      sum-first a l₁
+      ∙ (λ i. value (e i) pu pv +ℤ sum-any-order d i)
+      ∙ sym (sum-first b l₂)
+  sum-any-order (List·Permᴰ·swap {a} {b} {a′} {b′} {l} e f) =
+      two a b l
+      ∙ (λ i. value (e i) pu pv +ℤ (value (f i) pu pv +ℤ sum l pu pv))
+      ∙ swapped (value b′ pu pv) (value a′ pu pv) (sum l pu pv)
+      ∙ sym (two a′ b′ l)
+    where
+      two : (s t : Term) (ts : List Term) → sum (s ∷ t ∷ ts) pu pv ≡ value s pu pv +ℤ (value t pu pv +ℤ sum ts pu pv)
+      two s t ts = sum-first s (t ∷ ts) ∙ ap (λ (z : ℤ). value s pu pv +ℤ z) (sum-first t ts)
+
+      swapped : (x y z : ℤ) → x +ℤ (y +ℤ z) ≡ y +ℤ (x +ℤ z)
+      swapped x y z = sym (+ℤ-assoc x y z) ∙ ap (λ (w : ℤ). w +ℤ z) (+ℤ-comm x y) ∙ +ℤ-assoc y x z
+  sum-any-order (List·Permᴰ·trans d e) = sum-any-order d ∙ sum-any-order e

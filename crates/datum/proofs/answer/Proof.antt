@@ -5,12 +5,12 @@ use mir.Syntax.{w64}
 use mir.Val.{toZ, ofZ}
 use Rattle.whole.proofs.Words.{of}
 use Rattle.kinds.specs.Answer.{Answer}
-use Rattle.datum.specs.Page.{Page, Family}
+use Rattle.datum.specs.Page.{Page, Family, isEither}
 use Rattle.datum.specs.Point.{pointOf}
 use Rattle.datum.specs.Cases.{datumPage, shiftPage, geoidPage, shiftAnswer, geoidAnswer}
 use Rattle.datum.specs.declared.Datum.{Datum}
 use Rattle.datum.proofs.Codes.{codePage}
-use Rattle.datum.proofs.Calls.{shift-answer, geoid-answer, none-answer}
+use Rattle.datum.proofs.Calls.{shift-answer, geoid-answer, none}
 use borrow.Author.Needs.{needs}
 use Rattle.datum.proofs.answer.Statement.{statement}
 use Rattle.datum.proofs.answer.Tie as tie
@@ -95,7 +95,7 @@ returns-4 c =
 returns-5 : tie.Need-returns-5
 returns-5 c =
     let o = c .before .before in
-    none-answer (s (o) .args .code) (s (o) .args .latitude) (s (o) .args .longitude) (found o (c .enum-told .given .1))
+    none isEither (s (o) .args .code) (s (o) .args .latitude) (s (o) .args .longitude) (found o (c .enum-told .given .1))
 
 pub answer-spec : {M : Type 1} → statement M
 answer-spec =

@@ -5,12 +5,12 @@ use mir.Syntax.{w64}
 use mir.Val.{toZ, ofZ}
 use Rattle.whole.proofs.Words.{of}
 use Rattle.kinds.specs.Answer.{Answer}
-use Rattle.datum.specs.Page.{Page, Family}
+use Rattle.datum.specs.Page.{Page, Family, isShift}
 use Rattle.datum.specs.Point.{pointOf}
 use Rattle.datum.specs.Cases.{datumPage, shiftPage}
 use Rattle.datum.specs.declared.Datum.{Datum}
 use Rattle.datum.proofs.Codes.{codePage}
-use Rattle.datum.proofs.Calls.{shift-shift, geoid-shift, none-shift}
+use Rattle.datum.proofs.Calls.{shift-shift, geoid-shift, none}
 use borrow.Author.Needs.{needs}
 use Rattle.datum.proofs.shift.Statement.{statement}
 use Rattle.datum.proofs.shift.Tie as tie
@@ -60,7 +60,7 @@ returns-2 c =
 returns-3 : tie.Need-returns-3
 returns-3 c =
     let o = c .before .before in
-    none-shift (s (o) .args .code) (s (o) .args .latitude) (s (o) .args .longitude) (found o (c .enum-told2 .given .1))
+    none isShift (s (o) .args .code) (s (o) .args .latitude) (s (o) .args .longitude) (found o (c .enum-told2 .given .1))
 
 pub shift-spec : {M : Type 1} → statement M
 shift-spec =
