@@ -1,18 +1,20 @@
 -- Which code has which page, as the code tests it. Assumes nothing.
 use mathlib.Core.Path.{_≡_, refl, sym, ap, _∙_}
 use mathlib.Core.Bool.{Bool, true, false, false≢true}
+use mathlib.Core.Logic.{_↔_}
 use Prim.Native.Nat.{ℕ, zero, suc, _≤_}
 use native.Mathlib.Omega.{arith}
-use lib.Dec.{T, lit<}
+use lib.Dec.{T, lit<, lit≤}
 use lib.IntN.{ℤ, pos, negsuc}
 use lib.Signed.{leZ}
-use borrow.Author.Tests.{leb-true}
+use borrow.Author.Tests.{leb-true, le-leb}
 use mir.Syntax.{w64}
 use mir.Val.{SFits, toZ, ofZ}
 use mir.Facts.{toZ-ofZ}
-use Rattle.whole.proofs.Bools.{both}
+use Rattle.whole.proofs.Bools.{both, joined}
 use Rattle.kinds.specs.Answer.{Answer, gives, refused, provided}
-use Rattle.datum.specs.Page.{Page}
+use Rattle.kinds.specs.Kinds.{within}
+use Rattle.datum.specs.Page.{Page, isShift, isGeoid}
 use Rattle.datum.specs.Point.{isCode, pageOf}
 use Rattle.datum.specs.Cases.{shiftPage, geoidPage}
 use Rattle.datum.specs.declared.ShiftDatum.{ShiftDatum}
@@ -37,6 +39,30 @@ six P p₁ p₂ p₃ p₄ p₅ p₆ (pos n) t =
     go (suc (suc (suc (suc (suc zero))))) h k = p₅
     go (suc (suc (suc (suc (suc (suc zero)))))) h k = p₆
     go (suc (suc (suc (suc (suc (suc (suc n))))))) h k = absurd (omega arith)
+
+-- a narrower range is in a wider one
+wider : (a b c d : ℕ) (z : ℤ) → c ≤ a → b ≤ d → within (pos a) (pos b) z ≡ true → within (pos c) (pos d) z ≡ true
+wider a b c d (negsuc n) h k t = absurd (false≢true t)
+wider a b c d (pos n) h k t =
+    let p = both (leZ (pos a) (pos n)) (leZ (pos n) (pos b)) t in
+    joined (le-leb c n (omega (arith, leb-true a n (p .0)))) (le-leb n d (omega (arith, leb-true n b (p .1))))
+
+-- the codes of each family
+pub not-shift : (code : ℤ) → ((isCode code ≡ true) × (isShift (pageOf code .equations) ≡ false)) ↔ (within (pos 5) (pos 6) code ≡ true)
+not-shift code = (
+  (λ h. six (λ z. isShift (pageOf z .equations) ≡ false → within (pos 5) (pos 6) z ≡ true) sym sym sym sym (λ e. refl) (λ e. refl) code (h .0) (h .1)),
+  (λ h.
+      let c = wider 5 6 1 6 code (lit≤ tt) (lit≤ tt) h in
+      (c, six (λ z. within (pos 5) (pos 6) z ≡ true → isShift (pageOf z .equations) ≡ false) sym sym sym sym (λ e. refl) (λ e. refl) code c h)),
+)
+
+pub not-geoid : (code : ℤ) → ((isCode code ≡ true) × (isGeoid (pageOf code .equations) ≡ false)) ↔ (within (pos 1) (pos 4) code ≡ true)
+not-geoid code = (
+  (λ h. six (λ z. isGeoid (pageOf z .equations) ≡ false → within (pos 1) (pos 4) z ≡ true) (λ e. refl) (λ e. refl) (λ e. refl) (λ e. refl) sym sym code (h .0) (h .1)),
+  (λ h.
+      let c = wider 1 4 1 6 code (lit≤ tt) (lit≤ tt) h in
+      (c, six (λ z. within (pos 1) (pos 4) z ≡ true → isGeoid (pageOf z .equations) ≡ false) (λ e. refl) (λ e. refl) (λ e. refl) (λ e. refl) sym sym code c h)),
+)
 
 abbrev pub codePage : ℤ → Answer Page
 codePage code = provided (isCode code) 4 (gives (pageOf code))
@@ -77,3 +103,6 @@ shift-keeps Qatar = six-keep 3 (lit< tt)
 pub geoid-keeps : (d : GeoidDatum) → T (page-keeps (geoidPage d))
 geoid-keeps Kandawala = six-keep 4 (lit< tt)
 geoid-keeps Nahrwan = six-keep 5 (lit< tt)
+
+pub code-keeps : (code : ℤ) → isCode code ≡ true → T (page-keeps (pageOf code))
+code-keeps = six (λ z. T (page-keeps (pageOf z))) (six-keep 0 (lit< tt)) (six-keep 1 (lit< tt)) (six-keep 2 (lit< tt)) (six-keep 3 (lit< tt)) (six-keep 4 (lit< tt)) (six-keep 5 (lit< tt))

@@ -6,3 +6,5 @@ pub mod Places
 pub mod Limits
 pub mod Points
 pub mod Calls
+pub mod Refusals
+pub mod Demands

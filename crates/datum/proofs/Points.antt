@@ -6,11 +6,14 @@ use Prim.Native.Nat.{ℕ, _≤_}
 use lib.Dec.{T}
 use lib.IntN.{ℤ, pos, natAbs}
 use Rattle.kinds.specs.Answer.{Answer, gives, refused, provided}
-use Rattle.kinds.specs.Kinds.{isLatitude, isLongitude}
+use Rattle.whole.specs.Round.{scale}
+use Rattle.whole.proofs.Bools.{joined}
+use Rattle.kinds.specs.Kinds.{isLatitude, isLongitude, isFourBytes}
+use Rattle.kinds.proofs.Tested.{in-four-bytes}
 use Rattle.kinds.proofs.Answers.{passed, same-value}
 use Rattle.equation.specs.Powers.{powersOf}
-use Rattle.equation.specs.Equation.{Term}
-use Rattle.datum.specs.Page.{Page, Family}
+use Rattle.equation.specs.Equation.{Term, equationOf}
+use Rattle.datum.specs.Page.{Page, Family, shift, geoid, each}
 use Rattle.datum.specs.Point.{fromCentre, inArea, evaluated, powersU, powersV, pointOf}
 use Rattle.datum.specs.Cases.{frameOf, placeOf}
 use Rattle.datum.specs.Asked.{Work}
@@ -58,3 +61,13 @@ module _ (page : Page) (latitude longitude : ℤ) where
 
       pub works : Work (page .equations) (powersOf x 10) (powersOf y 10)
       works = subst (λ (p : ℤ × ℤ). Work (page .equations) (powersOf (p .0) 10) (powersOf (p .1) 10)) (inside .1) (work page h latitude longitude (inside .0))
+
+-- each of a point's values is in 4 bytes
+of-family : (equations : Family (List Term)) (pu pv : List ℤ) → Work equations pu pv → each isFourBytes (evaluated equations pu pv) ≡ true
+of-family (shift dLat dLon dH) pu pv w =
+    joined (in-four-bytes (equationOf scale dLat pu pv) (w .0 .fits))
+    (joined (in-four-bytes (equationOf scale dLon pu pv) (w .1 .fits)) (in-four-bytes (equationOf scale dH pu pv) (w .2 .fits)))
+of-family (geoid n) pu pv w = in-four-bytes (equationOf scale n pu pv) (w .fits)
+
+pub fit : (page : Page) → T (page-keeps page) → (latitude longitude : ℤ) → inArea page latitude longitude ≡ true → each isFourBytes (evaluated (page .equations) (powersU page latitude) (powersV page longitude)) ≡ true
+fit page h latitude longitude inside = of-family (page .equations) (powersU page latitude) (powersV page longitude) (work page h latitude longitude inside)

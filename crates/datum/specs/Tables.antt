@@ -5,7 +5,7 @@ use Prim.Native.Nat.{ℕ, _+_}
 use lib.Dec.{eqb, ltb}
 use lib.ListN.{length}
 use Rattle.equation.specs.Equation.{Term, term}
-use Rattle.datum.specs.Page.{Page, Family, shift, geoid, each}
+use Rattle.datum.specs.Page.{Page, Family, shift, geoid}
 
 -- the terms of each equation, with the constant
 abbrev pub counted : Family (List Term) → Family ℕ
@@ -32,6 +32,7 @@ stands [] = true
 stands (t ∷ []) = belowTen t
 stands (s ∷ t ∷ ts) = belowTen s && (before s t && stands (t ∷ ts))
 
-abbrev pub allStand : List Page → Bool
-allStand [] = true
-allStand (page ∷ rest) = each stands (page .equations) && allStand rest
+-- whether a test holds of every page
+abbrev pub every : (Page → Bool) → List Page → Bool
+every test [] = true
+every test (page ∷ rest) = test page && every test rest

@@ -1,17 +1,17 @@
 -- A raw number x that was tested: what a constructor answers, at any width of the kind. Assumes nothing.
-use mathlib.Core.Path.{_≡_, sym, ap, _∙_}
+use mathlib.Core.Path.{_≡_, refl, sym, ap, _∙_}
 use mathlib.Core.Bool.{Bool, true, false}
 use Prim.Native.Nat.{ℕ, _<_, _^_}
 use native.Mathlib.Omega.{arith}
 use lib.IntN.{ℤ, pos, negsuc}
 use lib.Signed.{leZ, mag}
-use borrow.Author.Tests.{leb-true}
-use mir.Syntax.{Width, w64}
+use borrow.Author.Tests.{leb-true, le-leb}
+use mir.Syntax.{Width, w32, w64}
 use mir.Val.{SFits, hbits, toZ, ofZ}
-use Rattle.whole.proofs.Bools.{both}
+use Rattle.whole.proofs.Bools.{both, joined}
 use Rattle.whole.proofs.Words.{of, cast, cast-asks}
 use Rattle.kinds.specs.Answer.{gives, refused}
-use Rattle.kinds.specs.Kinds.{within, tested}
+use Rattle.kinds.specs.Kinds.{within, isFourBytes, tested}
 
 -- what lies between two numbers that a width holds, it holds
 between : {w : Width} (least largest x : ℤ) → SFits w least → SFits w largest → within least largest x ≡ true → SFits w x
@@ -49,3 +49,8 @@ module _ {w : Width} {least largest x : ℤ} {b : Bool} (t : Test w least larges
 -- a kind as wide as the raw number is made without a cast
 pub passed-wide : {least largest x : ℤ} {b : Bool} → Test w64 least largest x b → b ≡ true → gives (toZ w64 (ofZ w64 x)) ≡ tested (within least largest x) x
 passed-wide {x = x} t h = ap gives (of (t .raw) .reads) ∙ ap (λ (b : Bool). tested b x) (sym h ∙ same t)
+
+-- what 4 bytes hold is in their range
+pub in-four-bytes : (x : ℤ) → SFits w32 x → isFourBytes x ≡ true
+in-four-bytes (pos n) f = le-leb n 2147483647 (omega (arith, f .sfits))
+in-four-bytes (negsuc n) f = joined (le-leb n 2147483647 (omega (arith, f .sfits))) refl

@@ -1,0 +1,168 @@
+-- What document 01 asks of the tables, of the areas and of a point's answer. Stated over specs/ alone. Assumes nothing.
+use mathlib.Core.Path.{_≡_, refl, sym, ap, _∙_, subst}
+use mathlib.Core.Bool.{Bool, true, false, not, _&&_, false≢true}
+use mathlib.Core.List.{List, [], _∷_, map, Perm}
+use mathlib.Core.Logic.{_↔_, _⊎_}
+use Prim.Native.Nat.{ℕ, _+_, _-_}
+use lib.Dec.{T}
+use lib.IntN.{ℤ, pos}
+use Rattle.whole.specs.Round.{scale}
+use Rattle.kinds.specs.Answer.{Answer, gives, refused, provided}
+use Rattle.kinds.specs.Kinds.{within, isLatitude, isLongitude, isFourBytes}
+use Rattle.kinds.proofs.Answers.{number-back, rebuilt, determined}
+use Rattle.equation.specs.Equation.{Term}
+use Rattle.equation.proofs.Demands as equation
+use Rattle.datum.specs.Page.{Page, Family, shift, geoid, isShift, isGeoid, isEither, each}
+use Rattle.datum.specs.Point.{isCode, pages, pageOf, inArea, pointOf, powersU, powersV, evaluated, asked, answerOf, shiftOf, geoidOf}
+use Rattle.datum.specs.Tables.{counted, inAll, stands, every}
+use Rattle.datum.specs.Cases.{shiftAnswer, geoidAnswer, pointAnswer}
+use Rattle.kinds.specs.declared.Refusal.the-variants as Refusal
+use Rattle.kinds.specs.declared.HeightAnswer.{HeightAnswer}
+use Rattle.kinds.specs.declared.HeightAnswer.the-variants as Geoid
+use Rattle.datum.specs.declared.ShiftAnswer.{ShiftAnswer}
+use Rattle.datum.specs.declared.ShiftAnswer.the-variants as Shifted
+use Rattle.datum.specs.declared.PointAnswer.{PointAnswer}
+use Rattle.datum.specs.declared.PointAnswer.the-variants as Point
+use Rattle.datum.proofs.Codes.{not-shift, not-geoid, code-keeps}
+use Rattle.datum.proofs.Points.{fit}
+use Rattle.datum.proofs.Refusals as refusals
+
+-- ---- 'Terms with the constant, in that order .. In all 157 terms'
+pub terms-counted : map (λ (page : Page). counted (page .equations)) pages ≡ shift 4 7 11 ∷ shift 16 9 9 ∷ shift 20 23 17 ∷ shift 9 7 9 ∷ geoid 9 ∷ geoid 7 ∷ []
+terms-counted = refl
+
+pub terms-in-all : inAll pages ≡ 157
+terms-in-all = refl
+
+-- ---- 'The tables stand by rising power of longitude, then of latitude'; and each power is one of the ten
+pub tables-stand : T (every (λ page. each stands (page .equations)) pages)
+tables-stand = tt
+
+-- ---- 'Both ends belong to the area': the corners are in, and what is 1 ms outside an end is out
+abbrev pub ends : Page → Bool
+ends page =
+    inArea page (pos (page .south)) (pos (page .west)) && inArea page (pos (page .north)) (pos (page .east))
+    && not (inArea page (pos (page .south - 1)) (pos (page .west)))
+    && not (inArea page (pos (page .north + 1)) (pos (page .east)))
+    && not (inArea page (pos (page .south)) (pos (page .west - 1)))
+    && not (inArea page (pos (page .north)) (pos (page .east + 1)))
+
+pub ends-belong : T (every ends pages)
+ends-belong = tt
+
+-- ---- the answer does not depend on the order: tables that are a table's terms in another order give the same
+abbrev pub Reordered : Family (List Term) → Family (List Term) → Type 0
+Reordered (shift a b c) (shift d e f) = Perm a d × Perm b e × Perm c f
+Reordered (geoid m) (geoid n) = Perm m n
+Reordered (shift a b c) (geoid n) = ⊥
+Reordered (geoid n) (shift a b c) = ⊥
+
+pub any-order : (f g : Family (List Term)) → Reordered f g → (pu pv : List ℤ) → evaluated f pu pv ≡ evaluated g pu pv
+any-order (shift a b c) (shift d e f) p pu pv = λ i. shift (equation.any-order scale (p .0) pu pv i) (equation.any-order scale (p .1) pu pv i) (equation.any-order scale (p .2) pu pv i)
+any-order (geoid m) (geoid n) p pu pv = ap geoid (equation.any-order scale p pu pv)
+any-order (shift a b c) (geoid n) p pu pv = absurd p
+any-order (geoid n) (shift a b c) p pu pv = absurd p
+
+-- ---- 'Order for a point: 4, 5, 3, 6': when each number is given, whichever family is asked of
+abbrev pub isAsked : (Family (List Term) → Bool) → ℤ → Bool
+isAsked family code = family (pageOf code .equations)
+
+abbrev pub inRange : ℤ → ℤ → Bool
+inRange latitude longitude = isLatitude latitude && isLongitude longitude
+
+abbrev pub inside : ℤ → ℤ → ℤ → Bool
+inside code latitude longitude = inArea (pageOf code) latitude longitude
+
+abbrev pub worked : ℤ → ℤ → ℤ → Family ℤ
+worked code latitude longitude = evaluated (pageOf code .equations) (powersU (pageOf code) latitude) (powersV (pageOf code) longitude)
+
+pub given-4 : (family : Family (List Term) → Bool) (code latitude longitude : ℤ) → (asked family code latitude longitude ≡ refused 4) ↔ (isCode code ≡ false)
+given-4 family code latitude longitude = refusals.at-4 (isCode code) (isAsked family code) (inRange latitude longitude) (inside code latitude longitude) (worked code latitude longitude)
+
+pub given-5 : (family : Family (List Term) → Bool) (code latitude longitude : ℤ) → (asked family code latitude longitude ≡ refused 5) ↔ ((isCode code ≡ true) × (isAsked family code ≡ false))
+given-5 family code latitude longitude = refusals.at-5 (isCode code) (isAsked family code) (inRange latitude longitude) (inside code latitude longitude) (worked code latitude longitude)
+
+pub given-3 : (family : Family (List Term) → Bool) (code latitude longitude : ℤ) → (asked family code latitude longitude ≡ refused 3) ↔ ((isCode code ≡ true) × ((isAsked family code ≡ true) × (inRange latitude longitude ≡ false)))
+given-3 family code latitude longitude = refusals.at-3 (isCode code) (isAsked family code) (inRange latitude longitude) (inside code latitude longitude) (worked code latitude longitude)
+
+pub given-6 : (family : Family (List Term) → Bool) (code latitude longitude : ℤ) → (asked family code latitude longitude ≡ refused 6) ↔ ((isCode code ≡ true) × ((isAsked family code ≡ true) × ((inRange latitude longitude ≡ true) × (inside code latitude longitude ≡ false))))
+given-6 family code latitude longitude = refusals.at-6 (isCode code) (isAsked family code) (inRange latitude longitude) (inside code latitude longitude) (worked code latitude longitude)
+
+-- no other number is given
+pub given-one-of : (family : Family (List Term) → Bool) (code latitude longitude : ℤ) (n : ℕ) → asked family code latitude longitude ≡ refused n → (n ≡ 4) ⊎ ((n ≡ 5) ⊎ ((n ≡ 3) ⊎ (n ≡ 6)))
+given-one-of family code latitude longitude = refusals.one-of (isCode code) (isAsked family code) (inRange latitude longitude) (inside code latitude longitude) (worked code latitude longitude)
+
+-- and where none is, the answer is the one that the printed coefficients give
+pub answered : (family : Family (List Term) → Bool) (code latitude longitude : ℤ) (values : Family ℤ) → (asked family code latitude longitude ≡ gives values) ↔ (((isCode code ≡ true) × (isAsked family code ≡ true)) × (((inRange latitude longitude ≡ true) × (inside code latitude longitude ≡ true)) × (worked code latitude longitude ≡ values)))
+answered family code latitude longitude = refusals.given (isCode code) (isAsked family code) (inRange latitude longitude) (inside code latitude longitude) (worked code latitude longitude)
+
+-- ---- 'a shift is asked of code 5 or 6, or a geoid height of code 1 to 4'
+pub shift-5 : (code latitude longitude : ℤ) → (shiftOf code latitude longitude ≡ refused 5) ↔ (within (pos 5) (pos 6) code ≡ true)
+shift-5 code latitude longitude = (
+  (λ h. not-shift code .0 (given-5 isShift code latitude longitude .0 h)),
+  (λ h. given-5 isShift code latitude longitude .1 (not-shift code .1 h)),
+)
+
+pub geoid-5 : (code latitude longitude : ℤ) → (geoidOf code latitude longitude ≡ refused 5) ↔ (within (pos 1) (pos 4) code ≡ true)
+geoid-5 code latitude longitude = (
+  (λ h. not-geoid code .0 (given-5 isGeoid code latitude longitude .0 h)),
+  (λ h. given-5 isGeoid code latitude longitude .1 (not-geoid code .1 h)),
+)
+
+-- what takes both families never gives it
+pub answer-never-5 : (code latitude longitude : ℤ) → answerOf code latitude longitude ≡ refused 5 → ⊥
+answer-never-5 code latitude longitude h = false≢true (sym (given-5 isEither code latitude longitude .0 h .1))
+
+-- and a shift or a geoid height is that, with the family tested
+pub family-tested : (family : Family (List Term) → Bool) (code latitude longitude : ℤ) → asked family code latitude longitude ≡ provided (isCode code) 4 (provided (isAsked family code) 5 (answerOf code latitude longitude))
+family-tested family code latitude longitude = go (isCode code)
+  where
+    point : Answer (Family ℤ)
+    point = pointOf (pageOf code) latitude longitude
+
+    go : (b : Bool) → provided b 4 (provided (isAsked family code) 5 point) ≡ provided b 4 (provided (isAsked family code) 5 (provided b 4 point))
+    go true = refl
+    go false = refl
+
+-- ---- the answers fit 4 bytes
+pub four-bytes : (family : Family (List Term) → Bool) (code latitude longitude : ℤ) {values : Family ℤ} → asked family code latitude longitude ≡ gives values → each isFourBytes values ≡ true
+four-bytes family code latitude longitude {values} h =
+    let p = answered family code latitude longitude values .0 h in
+    subst (λ (v : Family ℤ). each isFourBytes v ≡ true) (p .1 .1)
+    (fit (pageOf code) (code-keeps code (p .0 .0)) latitude longitude (p .1 .0 .1))
+
+-- ---- 'that two permitted answers coincide is proved'
+-- two answers that say the same are the same
+pub shift-determined : (a b : ShiftAnswer) → shiftAnswer a ≡ shiftAnswer b → a ≡ b
+shift-determined = determined yes Shifted.Refused shiftAnswer back
+  where
+    yes : Family ℤ → ShiftAnswer
+    yes (shift a b c) = Shifted.Gives (record { latitude = record { 0 = a }; longitude = record { 0 = b }; height = record { 0 = c } })
+    yes (geoid n) = Shifted.Refused Refusal.Family
+
+    back : (e : ShiftAnswer) → rebuilt yes Shifted.Refused (shiftAnswer e) ≡ e
+    back (Shifted.Gives s) = refl
+    back (Shifted.Refused r) = ap Shifted.Refused (number-back r)
+
+pub geoid-determined : (a b : HeightAnswer) → geoidAnswer a ≡ geoidAnswer b → a ≡ b
+geoid-determined = determined yes Geoid.Refused geoidAnswer back
+  where
+    yes : Family ℤ → HeightAnswer
+    yes (shift a b c) = Geoid.Refused Refusal.Family
+    yes (geoid n) = Geoid.Gives (record { 0 = n })
+
+    back : (e : HeightAnswer) → rebuilt yes Geoid.Refused (geoidAnswer e) ≡ e
+    back (Geoid.Gives n) = refl
+    back (Geoid.Refused r) = ap Geoid.Refused (number-back r)
+
+pub point-determined : (a b : PointAnswer) → pointAnswer a ≡ pointAnswer b → a ≡ b
+point-determined = determined yes Point.Refused pointAnswer back
+  where
+    yes : Family ℤ → PointAnswer
+    yes (shift a b c) = Point.Shift (record { latitude = record { 0 = a }; longitude = record { 0 = b }; height = record { 0 = c } })
+    yes (geoid n) = Point.Geoid (record { 0 = n })
+
+    back : (e : PointAnswer) → rebuilt yes Point.Refused (pointAnswer e) ≡ e
+    back (Point.Shift s) = refl
+    back (Point.Geoid n) = refl
+    back (Point.Refused r) = ap Point.Refused (number-back r)
