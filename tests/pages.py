@@ -10,6 +10,8 @@ import sys
 from fractions import Fraction
 from math import floor
 
+import document_000
+
 SCALE = 100_000_000            # u, v and their powers are in hundred-millionths
 
 # The quotients: each number over each divisor, and once more over the scale.
@@ -77,6 +79,100 @@ WRITTEN = [
     1_295_999_999, 1_296_000_000, 2 ** 32, 2 ** 63 - 1,
 ]
 ROOMS = [0, 10, 11, 12, 14]
+
+
+# The datums: document 01's areas, in ms, south, north, west and east.
+def ms(degrees, minutes=0, seconds=0):
+    return ((degrees * 60 + minutes) * 60 + seconds) * 1000
+
+
+AREAS = {
+    1: (ms(34, 30), ms(35, 45), ms(32, 10), ms(34, 40)),
+    2: (ms(4), ms(14), ms(2, 30), ms(14, 45)),
+    3: (ms(54), ms(72), ms(190), ms(220)),
+    4: (ms(24, 20), ms(26, 15), ms(50, 40), ms(51, 45)),
+    5: (ms(5, 50), ms(9, 55), ms(79, 30), ms(82)),
+    6: (ms(20), ms(26, 15), ms(51), ms(59)),
+}
+# Document 000's test points, with what it prints for them in seconds and metres.
+PRINTED = [
+    (1, ms(34, 43, 23) + 316, ms(32, 28, 6) + 26, '-3.885 -1.126 23.64'),
+    (2, ms(9, 19, 9) + 51, ms(12, 13, 50) + 125, '0.930 -2.348 13.43'),
+    (3, ms(64, 31, 9) + 64, ms(194, 37, 28) + 92, '-2.648 -9.525 19.20'),
+    (4, ms(24, 34, 55) + 61, ms(50, 59, 6) + 940, '2.465 -2.806 -29.64'),
+    (5, ms(7, 37, 2) + 730, ms(81, 40, 49) + 750, '-4.55'),
+    (6, ms(24, 58, 7) + 671, ms(55, 0, 7) + 720, '1.11'),
+]
+# The same as document 01 and its issues have them worked.
+WORKED = ['-388460 -112641 23638', '92953 -234783 13429', '-264775 -952519 19198', '246464 -280607 -29637', '-4547', '1110']
+CENTRES = ['-384288 -110294 24430', '49461 -262435 20013', '-208611 -819369 8352', '247363 -280439 -28376', '-979', '7464']
+# Points of each area that no paper gives, and the west end of code 6, where a power is largest.
+OTHERS = [
+    (1, 125_199_250, 121_160_060), (1, 128_415_407, 124_386_960), (1, 125_060_980, 119_546_093),
+    (2, 44_001_384, 25_101_703), (2, 14_570_110, 50_218_551), (2, 19_817_273, 16_431_403),
+    (3, 224_575_825, 685_542_004), (3, 249_077_798, 775_963_043), (3, 215_487_828, 712_215_876),
+    (4, 90_932_101, 183_454_922), (4, 90_516_365, 186_297_839), (4, 90_757_006, 185_528_824),
+    (5, 29_616_569, 287_480_435), (5, 33_131_805, 291_910_873), (5, 25_825_159, 293_874_700),
+    (6, 76_727_428, 205_235_731), (6, 91_375_112, 193_968_276), (6, ms(23), ms(51)),
+]
+LEAST, LARGEST = -2 ** 63, 2 ** 63 - 1
+# Wrong codes; numbers out of range; and points at which two refusals are due.
+REFUSED = [(code, ms(35), ms(33)) for code in (-1, 0, 7, 256, 257, LEAST, LARGEST)] + [
+    (1, LEAST, ms(33)), (1, LARGEST, ms(33)), (1, ms(35), LEAST), (1, ms(35), LARGEST), (6, LEAST, LARGEST), (0, LEAST, LARGEST),
+    (1, ms(90) + 1, ms(33)), (1, ms(-90) - 1, ms(33)), (5, ms(7), ms(360)), (5, ms(7), -1), (3, ms(62), ms(208) - ms(360)),
+]
+
+
+def around(code):
+    """Both ends of the area in both coordinates, and 1 ms outside each."""
+    south, north, west, east = AREAS[code]
+    places = [(south, west), (north, east), (south - 1, west), (north + 1, east), (south, west - 1), (north, east + 1)]
+    return [(code, *place) for place in places]
+
+
+def centre(code):
+    latitude, longitude, _ = document_000.frame(code)
+    return code, ms(latitude), ms(longitude)
+
+
+def worked(code, latitude, longitude):
+    """Document 01's working rule, over document 000's equations as printed."""
+    *centre, factor = document_000.frame(code)
+    tens = []
+    for x, degrees in zip((latitude, longitude), centre):
+        u = rounded(Fraction(factor * (x - ms(degrees)), ms(1)))
+        tens.append([SCALE] + [int(p) for p in powers(u).split()])
+    answers = []
+    for _, _, terms in document_000.equations(code):
+        total = sum(c * rounded(Fraction(tens[0][i] * tens[1][j], SCALE)) for _, c, i, j in terms)
+        answers.append(rounded(Fraction(total, SCALE)))
+    return ' '.join(map(str, answers))
+
+
+def asked(family, code, latitude, longitude):
+    """The answer to a call of one family, or of both."""
+    if code not in AREAS:
+        return 'refused 4'
+    if family and code not in family:
+        return 'refused 5'
+    for x, (least, largest) in zip((latitude, longitude), KINDS):
+        if not least <= x <= largest:
+            return 'refused 3'
+    south, north, west, east = AREAS[code]
+    if not (south <= latitude <= north and west <= longitude <= east):
+        return 'refused 6'
+    return worked(code, latitude, longitude)
+
+
+def point(*place):
+    calls = [asked(family, *place) for family in (None, (1, 2, 3, 4), (5, 6))]
+    return ' '.join(map(str, place)) + ': ' + ' '.join(calls)
+
+
+def points():
+    places = [centre(code) for code in AREAS] + [p[:3] for p in PRINTED]
+    places += [place for code in AREAS for place in around(code)] + OTHERS + REFUSED
+    return ['datum'] + [point(*place) for place in places]
 
 
 def made(n):
@@ -147,7 +243,16 @@ def kinds():
 
 def text():
     whole = ['whole'] + [quotients(n) for n in NUMBERS] + [powers(u) for u in POWERS]
-    return '\n'.join(whole + kinds() + positions()) + '\n'
+    return '\n'.join(whole + kinds() + positions() + points()) + '\n'
+
+
+def beside(found, printed):
+    """Each number worked, the one printed, and whether it is near: an angle within 50 units, a height within 5."""
+    found, printed = found.split(), printed.split()
+    for k, (x, y) in enumerate(zip(found, printed)):
+        height = k == len(printed) - 1
+        unit, near = (1000, 5) if height else (100_000, 50)
+        yield x, y, abs(int(x) - Fraction(y) * unit) <= near
 
 
 def check():
@@ -164,10 +269,18 @@ def check():
     ]
     wrong = [f'{x} gives {rounded(x)}, and the paper says {n}' for x, n in points if rounded(x) != n]
     wrong += [f'{t} gives {read(form, t.encode())}, and the paper says {a}' for form, t, a in texts if read(form, t.encode()) != a]
+    for code, answer in zip(AREAS, CENTRES):
+        if worked(*centre(code)) != answer:
+            wrong.append(f'the centre of code {code} gives {worked(*centre(code))}, and the paper says {answer}')
+    for (code, latitude, longitude, printed), answer in zip(PRINTED, WORKED):
+        found = worked(code, latitude, longitude)
+        if found != answer:
+            wrong.append(f'the test point of code {code} gives {found}, and the paper says {answer}')
+        wrong += [f'the test point of code {code}: {x} is not near {y}' for x, y, near in beside(found, printed) if not near]
     with open('crates/pages/stdout', encoding='ascii') as f:
         if f.read() != text():
             wrong.append('crates/pages/stdout is not what this script works out')
-    return wrong, len(points) + len(texts)
+    return wrong, len(points) + len(texts) + len(CENTRES) + len(PRINTED)
 
 
 if '--check' in sys.argv:

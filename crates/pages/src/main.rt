@@ -1,8 +1,10 @@
 // A test program: the papers' points and the edges of the machine's numbers, through the compiled crates, a line each.
 // tests/pages.py works out what it must print from the papers, with arithmetic of its own.
+mod points;
 mod quantities;
 mod texts;
 
+use kinds::Refusal;
 use libc::STDOUT_FILENO;
 
 pub(crate) fn print(before: &[u8], n: i64) {
@@ -15,6 +17,10 @@ pub(crate) fn print(before: &[u8], n: i64) {
 
 pub(crate) fn print_i32(before: &[u8], n: i32) {
     print(before, n as i64);
+}
+
+pub(crate) fn refused(why: Refusal) {
+    print(b" refused ", why.number() as i64);
 }
 
 // n, n over each of eight divisors, and over the scale by the function that has it as a constant.
@@ -80,5 +86,6 @@ fn main() {
     powers(-251_327_412);
     quantities::all();
     texts::all();
+    points::all();
     io::write_all(STDOUT_FILENO, b"\n");
 }

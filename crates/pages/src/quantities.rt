@@ -14,37 +14,33 @@ use kinds::Wgs84Longitude;
 use kinds::Wgs84LongitudeAnswer;
 use libc::STDOUT_FILENO;
 
-fn refused(why: Refusal) {
-    super::print(b" refused ", why.number() as i64);
-}
-
 // A raw number through each constructor.
 fn made(n: i64) {
     super::print(b"\n", n);
     io::write_all(STDOUT_FILENO, b":");
     match LocalLatitude::new(n) {
         LocalLatitudeAnswer::Gives(x) => super::print_i32(b" ", x.ms()),
-        LocalLatitudeAnswer::Refused(why) => refused(why),
+        LocalLatitudeAnswer::Refused(why) => super::refused(why),
     }
     match LocalLongitude::new(n) {
         LocalLongitudeAnswer::Gives(x) => super::print_i32(b" ", x.ms()),
-        LocalLongitudeAnswer::Refused(why) => refused(why),
+        LocalLongitudeAnswer::Refused(why) => super::refused(why),
     }
     match Wgs84Latitude::new(n) {
         Wgs84LatitudeAnswer::Gives(x) => super::print(b" ", x.units()),
-        Wgs84LatitudeAnswer::Refused(why) => refused(why),
+        Wgs84LatitudeAnswer::Refused(why) => super::refused(why),
     }
     match Wgs84Longitude::new(n) {
         Wgs84LongitudeAnswer::Gives(x) => super::print(b" ", x.units()),
-        Wgs84LongitudeAnswer::Refused(why) => refused(why),
+        Wgs84LongitudeAnswer::Refused(why) => super::refused(why),
     }
     match AngleShift::new(n) {
         AngleShiftAnswer::Gives(x) => super::print_i32(b" ", x.units()),
-        AngleShiftAnswer::Refused(why) => refused(why),
+        AngleShiftAnswer::Refused(why) => super::refused(why),
     }
     match Height::new(n) {
         HeightAnswer::Gives(x) => super::print_i32(b" ", x.mm()),
-        HeightAnswer::Refused(why) => refused(why),
+        HeightAnswer::Refused(why) => super::refused(why),
     }
 }
 
@@ -58,24 +54,24 @@ fn converted(ms: i64, shift: i64) {
     };
     match LocalLatitude::new(ms) {
         LocalLatitudeAnswer::Gives(x) => super::print(b" ", x.shifted(by).units()),
-        LocalLatitudeAnswer::Refused(why) => refused(why),
+        LocalLatitudeAnswer::Refused(why) => super::refused(why),
     }
     match LocalLongitude::new(ms) {
         LocalLongitudeAnswer::Gives(x) => super::print(b" ", x.shifted(by).units()),
-        LocalLongitudeAnswer::Refused(why) => refused(why),
+        LocalLongitudeAnswer::Refused(why) => super::refused(why),
     }
 }
 
 fn numbers() {
-    refused(Refusal::Length);
-    refused(Refusal::Kind);
-    refused(Refusal::Range);
-    refused(Refusal::Code);
-    refused(Refusal::Family);
-    refused(Refusal::Area);
-    refused(Refusal::Room);
-    refused(Refusal::Foreign);
-    refused(Refusal::Sheet);
+    super::refused(Refusal::Length);
+    super::refused(Refusal::Kind);
+    super::refused(Refusal::Range);
+    super::refused(Refusal::Code);
+    super::refused(Refusal::Family);
+    super::refused(Refusal::Area);
+    super::refused(Refusal::Room);
+    super::refused(Refusal::Foreign);
+    super::refused(Refusal::Sheet);
 }
 
 fn below() {
