@@ -8,7 +8,7 @@ import re
 import sys
 
 COLUMNS = ['promise', 'definition', 'function', 'theorem', 'must-fail edits', 'run']
-FINISHED = ['Positions']
+FINISHED = ['Positions', 'The six areas']
 
 
 def declared(pattern, expression):
@@ -19,7 +19,7 @@ def declared(pattern, expression):
     return found
 
 
-NAME = r'^ *(?:(?:unfoldable|abbrev|pub|record|data) )*(\S+) (?:\([^:]*\) |\{[^:]*\} )*:'
+NAME = r'^ *(?:(?:unfoldable|abbrev|pub|record|data) )*(\S+) (?:[({][^(){}]*[)}] )*:'
 there = {
     'definition': declared('crates/*/specs/**/*.antt', NAME),
     'function': declared('crates/*/src/**/*.rt', r'\bfn (\w+)'),

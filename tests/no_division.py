@@ -7,8 +7,8 @@ import re
 import subprocess
 import sys
 
-# Functions of the test program into which the compiler puts whole::round_div, rounded and scaled, all with literal divisors.
-HOT = ['pages::quotients', 'pages::powers']
+# Functions into which the compiler puts whole::round_div, rounded and scaled, all with literal divisors, and equation::equation.
+HOT = ['pages::quotients', 'pages::powers', 'equation::powers', 'datum::ShiftDatum::at', 'datum::GeoidDatum::at']
 
 listing = subprocess.run(['x86_64-linux-gnu-objdump', '-d', '--no-show-raw-insn', 'target/obj/pages.o'], capture_output=True, text=True, check=True).stdout
 bodies = {m[1]: m[2] for m in re.finditer(r'^[0-9a-f]+ <(.+)>:\n((?:.+\n)*)', listing, re.M)}
@@ -20,5 +20,5 @@ for name in HOT:
         wrong.append(f'{name} multiplies nothing, so it does not divide: name the function that does')
     else:
         wrong += [f'{name}: {line.strip()}' for line in bodies[name].split('\n') if re.search(r'\ti?div', line)]
-print('\n'.join(wrong) or f'no division: none in {" and ".join(HOT)}')
+print('\n'.join(wrong) or f'no division: none in {", ".join(HOT)}')
 sys.exit(1 if wrong else 0)

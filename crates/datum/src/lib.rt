@@ -151,10 +151,11 @@ impl ShiftDatum {
         ensures { λ r. ⌜ shiftAnswer r ≡ pointOf (shiftPage self) latitude longitude ⌝ }
     {
         match self.frame().place(latitude, longitude) {
-            PlaceAnswer::Gives(place) => ShiftAnswer::Gives(self.evaluated(
-                powers(place.u),
-                powers(place.v),
-            )),
+            PlaceAnswer::Gives(place) => {
+                let pu = powers(place.u);
+                let pv = powers(place.v);
+                ShiftAnswer::Gives(self.evaluated(pu, pv))
+            }
             PlaceAnswer::Refused(why) => ShiftAnswer::Refused(why),
         }
     }
@@ -184,10 +185,11 @@ impl GeoidDatum {
         ensures { λ r. ⌜ geoidAnswer r ≡ pointOf (geoidPage self) latitude longitude ⌝ }
     {
         match self.frame().place(latitude, longitude) {
-            PlaceAnswer::Gives(place) => HeightAnswer::Gives(self.evaluated(
-                powers(place.u),
-                powers(place.v),
-            )),
+            PlaceAnswer::Gives(place) => {
+                let pu = powers(place.u);
+                let pv = powers(place.v);
+                HeightAnswer::Gives(self.evaluated(pu, pv))
+            }
             PlaceAnswer::Refused(why) => HeightAnswer::Refused(why),
         }
     }

@@ -1,6 +1,6 @@
 -- What document 01 asks of the powers and of an equation, over any table. Stated over specs/ alone. Assumes nothing.
 use mathlib.Core.Path.{_≡_, refl, sym, ap, _∙_}
-use mathlib.Core.List.{List, Perm}
+use mathlib.Core.List.{List, [], _∷_, Perm}
 use mathlib.Core.Logic.{∥∥₁-elim}
 use Prim.Native.Nat.{ℕ, _+_, _<_, _≤_}
 use native.Mathlib.Omega.{arith}
@@ -8,7 +8,7 @@ use lib.IntN.{ℤ, pos, _*ℤ_, ℤ-set}
 use lib.ListN.{length, getD}
 use Rattle.whole.specs.Round.{roundDiv, scale}
 use Rattle.equation.specs.Powers.{power, powersOf}
-use Rattle.equation.specs.Equation.{Term, equationOf}
+use Rattle.equation.specs.Equation.{Term, term, sum, equationOf}
 use Rattle.equation.proofs.Steps.{power-next, length-powers, powers-at}
 use Rattle.equation.proofs.Sums.{sum-any-order}
 
@@ -28,3 +28,15 @@ each-by-the-one-before u n h k =
 -- ---- 'The sum .. is exact': no order of the terms gives another answer
 pub any-order : (divisor : ℕ) {ts ss : List Term} → Perm ts ss → (pu pv : List ℤ) → equationOf divisor ts pu pv ≡ equationOf divisor ss pu pv
 any-order divisor p pu pv = ∥∥₁-elim p (ℤ-set _ _) (λ d. ap (λ (x : ℤ). roundDiv x divisor) (sum-any-order pu pv d))
+
+-- ---- 'Ways to get it wrong'
+pub record Worked : Type 0 where
+  -- the fourth power of document 01's u, and the square of its square
+  pub fourth : power (pos 39269908) 4 ≡ pos 2378151
+  pub not-by-squaring : roundDiv (power (pos 39269908) 2 *ℤ power (pos 39269908) 2) 100000000 ≡ pos 2378152
+  -- two terms of 0.4 unit come to 1 unit, though each by itself is rounded to none
+  pub summed-first : equationOf scale (term (pos 1) 1 0 ∷ term (pos 1) 1 0 ∷ []) (powersOf (pos 40000000) 10) (powersOf (pos 0) 10) ≡ pos 1
+
+pub worked : Worked
+unfolding roundDiv power powersOf sum
+worked = record { fourth = refl; not-by-squaring = refl; summed-first = refl }

@@ -1,11 +1,10 @@
--- What document 01 asks of every rounding, and its worked points that need no table. Stated over specs/ alone.
--- Assumes nothing.
+-- What document 01 asks of every rounding. Stated over specs/ alone. Assumes nothing.
 use mathlib.Core.Path.{_≡_, refl, _∙_, ap}
 use Prim.Native.Nat.{ℕ, _+_, _*_, _<_, _≤_}
 use native.Mathlib.Omega.{arith}
 use lib.IntN.{ℤ, pos, negℤ, natAbs, _-ℤ_, _*ℤ_}
 use lib.Signed.{_≤ℤ_}
-use Rattle.whole.specs.Round.{roundDiv, scale}
+use Rattle.whole.specs.Round.{roundDiv}
 use Rattle.whole.proofs.Rounding.{round-neg, round-mono, round-within, round-farthest, round-only, round-determined, nearest-only}
 
 -- ---- 'All roundings go to the nearest whole number, halves away from zero'
@@ -41,24 +40,11 @@ same-below-zero n d = round-neg n d
 pub in-order : {m n : ℤ} {d : ℕ} → 0 < d → m ≤ℤ n → roundDiv m d ≤ℤ roundDiv n d
 in-order h l = round-mono h l
 
--- ---- '5/2 gives 3 and -5/2 gives -3'; 'Points to hold against the page', four of the twelve
+-- ---- '5/2 gives 3 and -5/2 gives -3'
 pub record Worked : Type 0 where
   pub five-halves : roundDiv (pos 5) 2 ≡ pos 3
   pub minus-five-halves : roundDiv (negℤ (pos 5)) 2 ≡ negℤ (pos 3)
-  -- for code 1, K 78539816, a latitude difference in ms gives u
-  pub half-a-degree : roundDiv (pos 78539816 *ℤ pos 1800000) 3600000 ≡ pos 39269908
-  pub one-ms : roundDiv (pos 78539816 *ℤ pos 1) 3600000 ≡ pos 22
-  pub minus-one-ms : roundDiv (pos 78539816 *ℤ negℤ (pos 1)) 3600000 ≡ negℤ (pos 22)
-  -- the square of the first
-  pub square : roundDiv (pos 39269908 *ℤ pos 39269908) scale ≡ pos 15421257
 
 pub worked : Worked
 unfolding roundDiv
-worked = record {
-  five-halves = refl;
-  minus-five-halves = refl;
-  half-a-degree = refl;
-  one-ms = refl;
-  minus-one-ms = refl;
-  square = refl;
-}
+worked = record { five-halves = refl; minus-five-halves = refl }

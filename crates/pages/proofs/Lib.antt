@@ -1,0 +1,2 @@
+-- the twelve points of document 01
+pub mod Demands
