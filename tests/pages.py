@@ -39,14 +39,6 @@ def quotients(n):
     return f'{n}: ' + ' '.join(str(rounded(Fraction(n, d))) for d in DIVISORS + [SCALE])
 
 
-def powers(u):
-    """The first to the ninth, each the one before times u."""
-    out = [u]
-    while len(out) < 9:
-        out.append(rounded(Fraction(out[-1] * u, SCALE)))
-    return ' '.join(map(str, out))
-
-
 # The kinds: least and largest of each, and numbers around every end.
 DEGREE = 3_600_000             # in ms
 KINDS = [
@@ -106,12 +98,18 @@ PRINTED = [
 # The same as document 01 and its issues have them worked.
 WORKED = ['-388460 -112641 23638', '92953 -234783 13429', '-264775 -952519 19198', '246464 -280607 -29637', '-4547', '1110']
 CENTRES = ['-384288 -110294 24430', '49461 -262435 20013', '-208611 -819369 8352', '247363 -280439 -28376', '-979', '7464']
-# Points of each area that no paper gives, and the west end of code 6, where a power is largest.
-OTHERS = [
-    (1, 125_199_250, 121_160_060), (1, 128_415_407, 124_386_960), (1, 125_060_980, 119_546_093),
-    (2, 44_001_384, 25_101_703), (2, 14_570_110, 50_218_551), (2, 19_817_273, 16_431_403),
-    (3, 224_575_825, 685_542_004), (3, 249_077_798, 775_963_043), (3, 215_487_828, 712_215_876),
-    (4, 90_932_101, 183_454_922), (4, 90_516_365, 186_297_839), (4, 90_757_006, 185_528_824),
+# Points of each area that no paper gives, and the west end of code 6, where a power is largest. The first few are points at
+# which a slip of document 01's 'Ways to get it wrong' is seen in the last unit: u or its powers cut toward zero, an even power
+# as the square of another, one more digit of pi in K.
+SLIPS = {
+    'u': [(1, 128_650_240, 121_702_337), (2, 25_962_111, 31_138_852), (3, 239_342_002, 759_699_061)],
+    'power': [(1, 127_547_730, 123_444_793), (2, 37_799_917, 13_767_165), (3, 236_571_005, 701_633_307)],
+    'square': [(1, 128_674_315, 124_241_342), (2, 28_209_650, 52_962_193), (3, 253_983_409, 727_554_954)],
+    'term': [(2, 14_570_110, 50_218_551)],
+    'K': [(4, 93_757_176, 185_702_565)],
+}
+OTHERS = [place for places in SLIPS.values() for place in places] + [
+    (4, 90_516_365, 186_297_839), (4, 90_757_006, 185_528_824),
     (5, 29_616_569, 287_480_435), (5, 33_131_805, 291_910_873), (5, 25_825_159, 293_874_700),
     (6, 76_727_428, 205_235_731), (6, 91_375_112, 193_968_276), (6, ms(23), ms(51)),
 ]
@@ -135,17 +133,34 @@ def centre(code):
     return code, ms(latitude), ms(longitude)
 
 
-def worked(code, latitude, longitude):
-    """Document 01's working rule, over document 000's equations as printed."""
+def cut(x):
+    """Toward zero."""
+    return floor(x) if x >= 0 else -floor(-x)
+
+
+def tens(u, slip=''):
+    """The ten powers of u."""
+    out = [SCALE, u]
+    while len(out) < 10:
+        half, odd = divmod(len(out), 2)
+        if slip == 'square' and not odd:
+            out.append(rounded(Fraction(out[half] ** 2, SCALE)))
+        else:
+            out.append((cut if slip == 'power' else rounded)(Fraction(out[-1] * u, SCALE)))
+    return out
+
+
+def worked(code, latitude, longitude, slip=''):
+    """Document 01's working rule, over document 000's equations as printed; or the same with one slip."""
     *centre, factor = document_000.frame(code)
-    tens = []
+    factor += slip == 'K'
+    powers = []
     for x, degrees in zip((latitude, longitude), centre):
-        u = rounded(Fraction(factor * (x - ms(degrees)), ms(1)))
-        tens.append([SCALE] + [int(p) for p in powers(u).split()])
+        powers.append(tens((cut if slip == 'u' else rounded)(Fraction(factor * (x - ms(degrees)), ms(1))), slip))
     answers = []
     for _, _, terms in document_000.equations(code):
-        total = sum(c * rounded(Fraction(tens[0][i] * tens[1][j], SCALE)) for _, c, i, j in terms)
-        answers.append(rounded(Fraction(total, SCALE)))
+        values = [Fraction(c * rounded(Fraction(powers[0][i] * powers[1][j], SCALE)), SCALE) for _, c, i, j in terms]
+        answers.append(sum(map(rounded, values)) if slip == 'term' else rounded(sum(values)))
     return ' '.join(map(str, answers))
 
 
@@ -242,7 +257,7 @@ def kinds():
 
 
 def text():
-    whole = ['whole'] + [quotients(n) for n in NUMBERS] + [powers(u) for u in POWERS]
+    whole = ['whole'] + [quotients(n) for n in NUMBERS] + [' '.join(map(str, tens(u)[1:])) for u in POWERS]
     return '\n'.join(whole + kinds() + positions() + points()) + '\n'
 
 
@@ -277,6 +292,7 @@ def check():
         if found != answer:
             wrong.append(f'the test point of code {code} gives {found}, and the paper says {answer}')
         wrong += [f'the test point of code {code}: {x} is not near {y}' for x, y, near in beside(found, printed) if not near]
+    wrong += [f'the slip {slip} is not seen at {p}' for slip, places in SLIPS.items() for p in places if worked(*p, slip) == worked(*p)]
     with open('crates/pages/stdout', encoding='ascii') as f:
         if f.read() != text():
             wrong.append('crates/pages/stdout is not what this script works out')

@@ -1,10 +1,15 @@
 -- The laws, by what they are about.
--- which code has which page
-pub mod Codes
-pub mod Answered
-pub mod Places
+-- how far a page reaches: what one computed test shows of every point of its area
 pub mod Limits
+-- the six codes: the page and the family of each
+pub mod Codes
+-- a point in a frame: what each test says, and what the code worked out
+pub mod Places
+-- a point's answer from its place
 pub mod Points
+-- what a call says of a code, by the page that the code has
 pub mod Calls
+-- when each number is given
 pub mod Refusals
+-- what document 01 asks of the tables, the areas and a point's answer
 pub mod Demands

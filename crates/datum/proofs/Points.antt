@@ -1,12 +1,15 @@
 -- A point's answer from its place: of any page that keeps its limits. Assumes nothing.
-use mathlib.Core.Path.{_≡_, refl, sym, ap, _∙_, subst}
+use mathlib.Core.Path.{_≡_, refl, sym, ap, _∙_, subst, subst₂}
 use mathlib.Core.Bool.{Bool, true, false, _&&_}
 use mathlib.Core.List.{List}
 use Prim.Native.Nat.{ℕ, _≤_}
 use lib.Dec.{T}
 use lib.IntN.{ℤ, pos, natAbs}
 use Rattle.kinds.specs.Answer.{Answer, gives, refused, provided}
+use mir.Syntax.{w64}
+use mir.Val.{SFits, toZ, ofZ}
 use Rattle.whole.specs.Round.{scale}
+use Rattle.whole.proofs.Words.{of}
 use Rattle.whole.proofs.Bools.{joined}
 use Rattle.kinds.specs.Kinds.{isLatitude, isLongitude, isFourBytes}
 use Rattle.kinds.proofs.Tested.{in-four-bytes}
@@ -18,6 +21,7 @@ use Rattle.datum.specs.Point.{fromCentre, inArea, evaluated, powersU, po
 use Rattle.datum.specs.Cases.{frameOf, placeOf}
 use Rattle.datum.specs.Asked.{Work}
 use Rattle.datum.proofs.Limits.{page-keeps, u-small, v-small, work}
+use Rattle.datum.proofs.Places.{as-small}
 
 -- what is left to do with a place
 abbrev finished : Family (List Term) → Answer (ℤ × ℤ) → Answer (Family ℤ)
@@ -43,24 +47,34 @@ module _ (page : Page) (latitude longitude : ℤ) where
   not-placed e = ap (finished (page .equations)) (sym e) ∙ by-place
 
   module _ {x y : ℤ} (e : placeOf (frameOf page) latitude longitude ≡ gives (x, y)) where
-    pub answered : gives (evaluated (page .equations) (powersOf x 10) (powersOf y 10)) ≡ pointOf page latitude longitude
-    answered = ap (finished (page .equations)) (sym e) ∙ by-place
-
     inside : (inArea page latitude longitude ≡ true) × _≡_ {A = ℤ × ℤ} (u, v) (x, y)
     inside =
         let a = passed (isLatitude latitude && isLongitude longitude) 3 (provided (inArea page latitude longitude) 6 (gives (u, v))) e in
         let b = passed (inArea page latitude longitude) 6 (gives (u, v)) (a .1) in
         (b .0, same-value (b .1))
 
-    module _ (h : T (page-keeps page)) where
-      pub x-small : natAbs x ≤ 1000000000
-      x-small = subst (λ (p : ℤ × ℤ). natAbs (p .0) ≤ 1000000000) (inside .1) (u-small page h latitude longitude (inside .0))
+    -- and so for the code, which reads x and y back from a struct
+    module _ (h : T (page-keeps page)) (f : SFits w64 x) (g : SFits w64 y) where
+      pub x-asks : natAbs (toZ w64 (ofZ w64 x)) ≤ 1000000000
+      x-asks = as-small x f (subst (λ (p : ℤ × ℤ). natAbs (p .0) ≤ 1000000000) (inside .1) (u-small page h latitude longitude (inside .0)))
 
-      pub y-small : natAbs y ≤ 1000000000
-      y-small = subst (λ (p : ℤ × ℤ). natAbs (p .1) ≤ 1000000000) (inside .1) (v-small page h latitude longitude (inside .0))
+      pub y-asks : natAbs (toZ w64 (ofZ w64 y)) ≤ 1000000000
+      y-asks = as-small y g (subst (λ (p : ℤ × ℤ). natAbs (p .1) ≤ 1000000000) (inside .1) (v-small page h latitude longitude (inside .0)))
 
-      pub works : Work (page .equations) (powersOf x 10) (powersOf y 10)
-      works = subst (λ (p : ℤ × ℤ). Work (page .equations) (powersOf (p .0) 10) (powersOf (p .1) 10)) (inside .1) (work page h latitude longitude (inside .0))
+      module _ {pu pv : List ℤ} (d : pu ≡ powersOf (toZ w64 (ofZ w64 x)) 10) (q : pv ≡ powersOf (toZ w64 (ofZ w64 y)) 10) where
+        pu-is : pu ≡ powersOf x 10
+        pu-is = d ∙ ap (λ (z : ℤ). powersOf z 10) (of f .reads)
+
+        pv-is : pv ≡ powersOf y 10
+        pv-is = q ∙ ap (λ (z : ℤ). powersOf z 10) (of g .reads)
+
+        pub work-asks : Work (page .equations) pu pv
+        work-asks =
+            subst₂ (Work (page .equations)) (sym pu-is) (sym pv-is)
+            (subst (λ (p : ℤ × ℤ). Work (page .equations) (powersOf (p .0) 10) (powersOf (p .1) 10)) (inside .1) (work page h latitude longitude (inside .0)))
+
+        pub answered : {values : Family ℤ} → values ≡ evaluated (page .equations) pu pv → gives values ≡ pointOf page latitude longitude
+        answered k = ap gives (k ∙ (λ i. evaluated (page .equations) (pu-is i) (pv-is i))) ∙ ap (finished (page .equations)) (sym e) ∙ by-place
 
 -- each of a point's values is in 4 bytes
 of-family : (equations : Family (List Term)) (pu pv : List ℤ) → Work equations pu pv → each isFourBytes (evaluated equations pu pv) ≡ true

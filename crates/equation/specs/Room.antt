@@ -1,4 +1,4 @@
--- What `equation` asks of its callers, so that no number on the way is larger than 64 bits hold. `laws` of proofs/Limits
+-- What `equation` asks of its callers, so that no number on the way is larger than 64 bits hold. The laws of proofs/Limits
 -- show it of a table from the limits of u and v.
 use mathlib.Core.List.{List, [], _∷_}
 use Prim.Native.Nat.{ℕ, _+_, _*_, _<_, _^_}

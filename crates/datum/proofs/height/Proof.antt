@@ -1,8 +1,7 @@
 -- `datum::height` meets its contract. Assumes nothing.
 use mathlib.Core.Path.{_∙_}
 use mir.Syntax.{w32}
-use Rattle.whole.proofs.Words.{cast, cast-asks}
-use Rattle.datum.proofs.Answered.{answered}
+use Rattle.whole.proofs.Words.{of, to, cast, cast-asks}
 use borrow.Author.Needs.{needs}
 use Rattle.datum.proofs.height.Statement.{statement}
 use Rattle.datum.proofs.height.Tie as tie
@@ -13,7 +12,7 @@ equation-requires c κs = (c .before .before .pre .0, c .before .before .pre .1 
 cast-of : tie.Need-cast-of
 cast-of c =
     let w = c .before .before .before .pre .1 in
-    cast-asks (answered (c .equation .ensures) (record { sfits = c .equation .ok })) (w .fits)
+    cast-asks (to (c .equation .ensures) (of (record { sfits = c .equation .ok }))) (w .fits)
 
 of-requires : tie.Need-of-requires
 of-requires c κs = search needs
@@ -21,7 +20,7 @@ of-requires c κs = search needs
 returns : tie.Need-returns
 returns c =
     let w = c .before .before .before .before .pre .1 in
-    c .of .ensures ∙ cast w32 (answered (c .before .equation .ensures) (record { sfits = c .before .equation .ok })) (w .fits) .reads
+    c .of .ensures ∙ cast w32 (to (c .before .equation .ensures) (of (record { sfits = c .before .equation .ok }))) (w .fits) .reads
 
 pub height-spec : {M : Type 1} → statement M
 height-spec = tie.close (tie.spec equation-requires cast-of of-requires returns)

@@ -1,20 +1,16 @@
 -- `datum::GeoidDatum::at` meets its contract. Assumes nothing.
-use mathlib.Core.Path.{_≡_, sym, ap, _∙_, subst, subst₂}
-use lib.IntN.{ℤ}
+use mathlib.Core.Path.{_≡_, sym, ap, _∙_, subst}
 use mir.Syntax.{w64}
 use mir.Val.{SFits}
 use Rattle.whole.proofs.Words.{of}
 use Rattle.kinds.specs.Answer.{gives}
-use Rattle.equation.specs.Powers.{powersOf}
 use Rattle.datum.specs.Page.{Page}
-use Rattle.datum.specs.Point.{evaluated}
 use Rattle.datum.specs.Cases.{geoidPage, frameOf, placeOf, placeAnswer}
-use Rattle.datum.specs.Asked.{Work, Close}
+use Rattle.datum.specs.Asked.{Close}
 use Rattle.datum.specs.declared.Place.{Place}
 use Rattle.datum.proofs.Limits.{close}
 use Rattle.datum.proofs.Codes.{geoid-keeps}
-use Rattle.datum.proofs.Places.{as-small}
-use Rattle.datum.proofs.Points.{answered, not-placed, x-small, y-small, works}
+use Rattle.datum.proofs.Points.{not-placed, x-asks, y-asks, work-asks, answered}
 use borrow.Author.Needs.{needs}
 use Rattle.datum.proofs.GeoidDatum.at.Statement.{statement}
 use Rattle.datum.proofs.GeoidDatum.at.Tie as tie
@@ -39,7 +35,7 @@ module _ (c : tie.After-place) where
   said : placeAnswer (c .place .result) ≡ placeOf (frameOf page) (s .args .latitude) (s .args .longitude)
   said = c .place .ensures ∙ (λ i. placeOf (c .before .frame .ensures i) (of (s .fits .latitude) .reads i) (of (s .fits .longitude) .reads i))
 
--- a place
+-- the place that it gave
 module _ (c : tie.After-struct-told) where
   abbrev p : tie.After-place
   p = c .before .before .before .before
@@ -47,13 +43,7 @@ module _ (c : tie.After-struct-told) where
   abbrev place : Place
   place = c .before .before .place2 .given .0 .0
 
-  abbrev latitude : ℤ
-  latitude = s p .args .latitude
-
-  abbrev longitude : ℤ
-  longitude = s p .args .longitude
-
-  placed : placeOf (frameOf (page p)) latitude longitude ≡ gives (place .u, place .v)
+  placed : placeOf (frameOf (page p)) (s p .args .latitude) (s p .args .longitude) ≡ gives (place .u, place .v)
   placed = sym (said p) ∙ ap placeAnswer (c .before .before .place2 .given .1)
 
   u-fits : SFits w64 (place .u)
@@ -63,28 +53,17 @@ module _ (c : tie.After-struct-told) where
   v-fits = record { sfits = c .struct-told .given .1 .0 .1 }
 
 powers-requires : tie.Need-powers-requires
-powers-requires c κs = as-small (place c .u) (u-fits c) (x-small (page (p c)) (latitude c) (longitude c) (placed c) (geoid-keeps (s (p c) .args .self)))
+powers-requires c κs = x-asks (page (p c)) (s (p c) .args .latitude) (s (p c) .args .longitude) (placed c) (geoid-keeps (s (p c) .args .self)) (u-fits c) (v-fits c)
 
 powers-requires-2 : tie.Need-powers-requires-2
 powers-requires-2 c κs =
     let t = c .before .before in
-    as-small (place t .v) (v-fits t) (y-small (page (p t)) (latitude t) (longitude t) (placed t) (geoid-keeps (s (p t) .args .self)))
-
--- the powers
-module _ (c : tie.After-powers2) where
-  abbrev t : tie.After-struct-told
-  t = c .before .before .before
-
-  pu-is : c .before .before .powers .result ≡ powersOf (place t .u) 10
-  pu-is = c .before .before .powers .ensures ∙ ap (λ (z : ℤ). powersOf z 10) (of (u-fits t) .reads)
-
-  pv-is : c .powers2 .result ≡ powersOf (place t .v) 10
-  pv-is = c .powers2 .ensures ∙ ap (λ (z : ℤ). powersOf z 10) (of (v-fits t) .reads)
+    y-asks (page (p t)) (s (p t) .args .latitude) (s (p t) .args .longitude) (placed t) (geoid-keeps (s (p t) .args .self)) (u-fits t) (v-fits t)
 
 evaluated-requires : tie.Need-evaluated-requires
 evaluated-requires c κs =
-    let h = works (page (p (t c))) (latitude (t c)) (longitude (t c)) (placed (t c)) (geoid-keeps (s (p (t c)) .args .self)) in
-    subst₂ (Work (page (p (t c)) .equations)) (sym (pu-is c)) (sym (pv-is c)) h
+    let t = c .before .before .before in
+    work-asks (page (p t)) (s (p t) .args .latitude) (s (p t) .args .longitude) (placed t) (geoid-keeps (s (p t) .args .self)) (u-fits t) (v-fits t) (c .before .before .powers .ensures) (c .powers2 .ensures)
 
 enum-known-why : tie.Need-enum-known-why
 enum-known-why c = search needs
@@ -92,8 +71,8 @@ enum-known-why c = search needs
 returns : tie.Need-returns
 returns c =
     let w = c .before in
-    ap gives (c .evaluated .ensures ∙ (λ i. evaluated (page (p (t w)) .equations) (pu-is w i) (pv-is w i)))
-    ∙ answered (page (p (t w))) (latitude (t w)) (longitude (t w)) (placed (t w))
+    let t = w .before .before .before in
+    answered (page (p t)) (s (p t) .args .latitude) (s (p t) .args .longitude) (placed t) (geoid-keeps (s (p t) .args .self)) (u-fits t) (v-fits t) (w .before .before .powers .ensures) (w .powers2 .ensures) (c .evaluated .ensures)
 
 returns-2 : tie.Need-returns-2
 returns-2 c =
