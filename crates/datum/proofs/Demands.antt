@@ -1,5 +1,5 @@
 -- What document 01 asks of the tables, of the areas and of a point's answer. Stated over specs/ alone. Assumes nothing.
-use mathlib.Core.Path.{_≡_, refl, sym, ap, _∙_, subst}
+use mathlib.Core.Path.{_≡_, refl, sym, ap, subst}
 use mathlib.Core.Bool.{Bool, true, false, not, _&&_, false≢true}
 use mathlib.Core.List.{List, [], _∷_, map, Perm}
 use mathlib.Core.Logic.{_↔_, _⊎_}

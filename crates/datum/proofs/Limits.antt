@@ -1,20 +1,18 @@
 -- The limits of a page: what one computed test shows of every point of its area. Assumes nothing.
-use mathlib.Core.Path.{_≡_, refl, sym, ap, _∙_, subst}
+use mathlib.Core.Path.{_≡_}
 use mathlib.Core.Bool.{Bool, true, _&&_, false≢true}
 use mathlib.Core.List.{List}
-use Prim.Native.Nat.{ℕ, _+_, _-_, _*_, _<_, _≤_, _^_, max}
+use Prim.Native.Nat.{ℕ, _-_, _*_, _<_, _≤_, max}
 use native.Mathlib.Nat.{le-refl, le-trans, le-max-left, le-max-right}
 use native.Mathlib.Omega.{arith}
 use lib.Dec.{T, leb, leb→le, lit<}
 use lib.ListN.{getD}
-use lib.IntN.{ℤ, pos, negsuc, natAbs, _-ℤ_, _*ℤ_}
+use lib.IntN.{ℤ, pos, negsuc, natAbs, _-ℤ_}
 use lib.Signed.{leZ}
 use borrow.Author.Tests.{leb-true}
-use mir.Syntax.{w32}
-use mir.Val.{SFits}
 use mir.Facts.{and-yes}
-use Rattle.whole.specs.Round.{nearest, roundDiv, scale}
-use Rattle.whole.proofs.Below.{all-below, below}
+use Rattle.whole.specs.Round.{nearest, scale}
+use Rattle.whole.proofs.Below.{below}
 use Rattle.whole.proofs.Bools.{both}
 use Rattle.whole.proofs.Ring.{pos-sub}
 use Rattle.whole.proofs.Sizes.{abs-sub}

@@ -1,19 +1,17 @@
 -- The limits of a table: what one computed test shows of its sum at every u and v within limits. Assumes nothing.
-use mathlib.Core.Path.{_≡_, refl, ap, _∙_, subst}
 use mathlib.Core.Bool.{Bool, true, _&&_}
 use mathlib.Core.List.{List, [], _∷_}
 use Prim.Native.Nat.{ℕ, _+_, _*_, _<_, _≤_, _^_, zero-le}
 use native.Mathlib.Nat.{le-refl, le-trans, lt-of-le-of-lt, add-le-add, mul-le-mul}
-use native.Mathlib.Omega.{arith}
 use lib.Dec.{T, ltb, ltb→lt, lit<}
 use lib.ListN.{getD}
-use lib.IntN.{ℤ, pos, natAbs, _*ℤ_}
+use lib.IntN.{ℤ, pos, natAbs}
 use mir.Facts.{and-yes}
-use Rattle.whole.specs.Round.{nearest, roundDiv, scale}
+use Rattle.whole.specs.Round.{nearest, scale}
 use Rattle.whole.proofs.Sizes.{abs-*-≤, abs-round}
 use Rattle.whole.proofs.Rounding.{nearest-mono}
 use Rattle.whole.proofs.Products.{product-size}
-use Rattle.equation.specs.Powers.{power, powersOf}
+use Rattle.equation.specs.Powers.{powersOf}
 use Rattle.equation.specs.Equation.{Term, term, product, sum, equationOf}
 use Rattle.equation.specs.Room.{Fitting, Each, sizes, Room}
 use Rattle.equation.proofs.Steps.{limit, power-size, powers-at}

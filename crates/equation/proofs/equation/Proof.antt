@@ -1,21 +1,20 @@
 -- `equation::equation` meets its contract. Assumes nothing.
-use mathlib.Core.Path.{_≡_, refl, sym, ap, _∙_, subst}
+use mathlib.Core.Path.{_≡_, sym, ap, _∙_, subst}
 use mathlib.Core.List.{List}
-use Prim.Native.Nat.{ℕ, _+_, _-_, _<_, _≤_, _^_}
+use Prim.Native.Nat.{ℕ, _+_, _-_, _<_, _≤_}
 use native.Mathlib.Nat.{lt-of-le-of-lt, le-trans}
 use native.Mathlib.Numerals.{add-one}
 use native.Mathlib.Omega.{arith}
-use lib.Dec.{lit<}
 use lib.ListN.{length, getD, take}
 use lib.Seq.{take-all}
 use lib.IntN.{ℤ, pos, natAbs, _+ℤ_, _*ℤ_}
 use mir.Syntax.{w64}
-use mir.Val.{SFits, ofZ, toZ}
+use mir.Val.{SFits, ofZ}
 use Rattle.whole.specs.Round.{roundDiv, scale}
 use Rattle.whole.proofs.Words.{Holds, of, to, wr, asks, gives, small, zero-is}
 use Rattle.equation.specs.Equation.{Term, term, product, sum, terms}
 use Rattle.equation.specs.Room.{Fitting, sizes, Room}
-use Rattle.equation.proofs.Sums.{value, size, size-is, none, terms-at, length-terms, sum-next, sum-size, sizes-take, sizes-at, each-at}
+use Rattle.equation.proofs.Sums.{value, size-is, none, terms-at, length-terms, sum-next, sum-size, sizes-take, sizes-at, each-at}
 use Rattle.equation.proofs.equation.Statement.{statement}
 use Rattle.equation.proofs.equation.Tie as tie
 

@@ -1,12 +1,4 @@
 -- `datum::Datum::of` meets its contract. Assumes nothing.
-use mathlib.Core.Path.{_≡_, sym, ap, _∙_}
-use lib.IntN.{ℤ}
-use mir.Syntax.{w64}
-use mir.Val.{toZ, ofZ}
-use mir.Facts.{toZ-ofZ}
-use Rattle.kinds.specs.Answer.{Answer, gives, provided}
-use Rattle.datum.specs.Page.{Page}
-use Rattle.datum.specs.Point.{isCode, pageOf}
 use Rattle.datum.proofs.Codes.{listed, unlisted}
 use Rattle.datum.proofs.Datum.of.Statement.{statement}
 use Rattle.datum.proofs.Datum.of.Tie as tie
