@@ -8,7 +8,7 @@ use Rattle.kinds.specs.Answer.{Answer, gives, refused, provided}
 use Rattle.kinds.proofs.Answers.{passed, failed, same-value}
 use Rattle.datum.specs.Page.{Page, Family, isShift, isGeoid, isEither}
 use Rattle.datum.specs.Point.{isCode, pageOf, pointOf, asked, answerOf, shiftOf, geoidOf}
-use Rattle.datum.specs.Cases.{shiftPage, geoidPage}
+use Rattle.datum.specs.Inside.{shiftPage, geoidPage}
 use Rattle.datum.specs.declared.ShiftDatum.{ShiftDatum}
 use Rattle.datum.specs.declared.ShiftDatum.the-variants.{Cyprus, Minna, Alaska, Qatar}
 use Rattle.datum.specs.declared.GeoidDatum.{GeoidDatum}

@@ -16,7 +16,7 @@ use Rattle.kinds.specs.Answer.{Answer, gives, refused, provided}
 use Rattle.kinds.specs.Kinds.{within}
 use Rattle.datum.specs.Page.{Page, isShift, isGeoid}
 use Rattle.datum.specs.Point.{isCode, pageOf}
-use Rattle.datum.specs.Cases.{shiftPage, geoidPage}
+use Rattle.datum.specs.Inside.{shiftPage, geoidPage}
 use Rattle.datum.specs.declared.ShiftDatum.{ShiftDatum}
 use Rattle.datum.specs.declared.ShiftDatum.the-variants.{Cyprus, Minna, Alaska, Qatar}
 use Rattle.datum.specs.declared.GeoidDatum.{GeoidDatum}

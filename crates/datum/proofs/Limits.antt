@@ -25,8 +25,7 @@ use Rattle.equation.proofs.Limits.{keeps, room, in-four-bytes}
 use Rattle.datum.specs.Page.{Page, Family, shift, geoid}
 use Rattle.datum.specs.Point.{pages, fromCentre, inArea}
 use Rattle.datum.specs.Cyprus.{cyprus}
-use Rattle.datum.specs.Cases.{frameOf}
-use Rattle.datum.specs.Asked.{Works, Work, Close}
+use Rattle.datum.specs.Inside.{frameOf, Works, Work, Close}
 
 -- ---- the test
 -- the farthest from the centre, in ms, and in hundred-millionths

@@ -10,7 +10,7 @@ use Rattle.kinds.specs.Answer.{Answer, gives, refused, provided}
 use Rattle.kinds.specs.Kinds.{within, isLatitude, isLongitude, tested}
 use Rattle.kinds.proofs.Answers.{passed, failed, same-value}
 use Rattle.datum.specs.Point.{fromCentre}
-use Rattle.datum.specs.Cases.{placeOf}
+use Rattle.datum.specs.Inside.{placeOf}
 use Rattle.datum.specs.declared.Frame.{Frame}
 
 -- ---- a raw number, tested by its kind

@@ -18,8 +18,7 @@ use Rattle.equation.specs.Powers.{powersOf}
 use Rattle.equation.specs.Equation.{Term, equationOf}
 use Rattle.datum.specs.Page.{Page, Family, shift, geoid, each}
 use Rattle.datum.specs.Point.{fromCentre, inArea, evaluated, powersU, powersV, pointOf}
-use Rattle.datum.specs.Cases.{frameOf, placeOf}
-use Rattle.datum.specs.Asked.{Work}
+use Rattle.datum.specs.Inside.{frameOf, placeOf, Work}
 use Rattle.datum.proofs.Limits.{page-keeps, u-small, v-small, work}
 use Rattle.datum.proofs.Places.{as-small}
 

@@ -8,4 +8,4 @@ pub mod Nahrwan
 pub mod Point
 pub mod Tables
 pub mod Cases
-pub mod Asked
+pub mod Inside

@@ -5,7 +5,7 @@ use kinds::LocalLatitude;
 ghost use mathlib.Core.Path.{_≡_};
 ghost use Rattle.whole.specs.Round.{scale};
 ghost use Rattle.equation.specs.Equation.{equationOf};
-ghost use Rattle.datum.specs.Asked.{Works};
+ghost use Rattle.datum.specs.Inside.{Works};
 ghost use Rattle.datum.specs.Alaska.{dLat, dLon, dH};
 
 // U = K (φ - 62), V = K (λ - 208), K = 0.10471975; the area is document 01's.

@@ -5,7 +5,7 @@ use kinds::LocalLatitude;
 ghost use mathlib.Core.Path.{_≡_};
 ghost use Rattle.whole.specs.Round.{scale};
 ghost use Rattle.equation.specs.Equation.{equationOf};
-ghost use Rattle.datum.specs.Asked.{Works};
+ghost use Rattle.datum.specs.Inside.{Works};
 ghost use Rattle.datum.specs.Cyprus.{dLat, dLon, dH};
 
 // U = K (φ - 35), V = K (λ - 33), K = 0.78539816; the area is document 01's.

@@ -26,8 +26,8 @@ ghost use Rattle.equation.specs.Equation.{terms, equationOf};
 ghost use Rattle.kinds.specs.Answer.{gives, provided};
 ghost use Rattle.kinds.specs.Kinds.{within};
 ghost use Rattle.datum.specs.Point.{isCode, pageOf, pointOf, answerOf, shiftOf, geoidOf, evaluated, fromCentre};
-ghost use Rattle.datum.specs.Cases.{shiftSays, geoidSays, shiftAnswer, geoidAnswer, pointAnswer, shiftPage, geoidPage, datumPage, frameOf, placeOf, placeAnswer};
-ghost use Rattle.datum.specs.Asked.{Works, Work, Close};
+ghost use Rattle.datum.specs.Cases.{shiftSays, geoidSays, shiftAnswer, geoidAnswer, pointAnswer};
+ghost use Rattle.datum.specs.Inside.{shiftPage, geoidPage, datumPage, frameOf, placeOf, placeAnswer, Works, Work, Close};
 
 // The shifts of a point from its local datum to WGS 84.
 pub struct Shifts {

@@ -7,7 +7,8 @@ use Rattle.whole.proofs.Words.{of}
 use Rattle.kinds.specs.Answer.{Answer}
 use Rattle.datum.specs.Page.{Page, Family, isEither}
 use Rattle.datum.specs.Point.{pointOf}
-use Rattle.datum.specs.Cases.{datumPage, shiftPage, geoidPage, shiftAnswer, geoidAnswer}
+use Rattle.datum.specs.Cases.{shiftAnswer, geoidAnswer}
+use Rattle.datum.specs.Inside.{datumPage, shiftPage, geoidPage}
 use Rattle.datum.specs.declared.Datum.{Datum}
 use Rattle.datum.proofs.Codes.{codePage}
 use Rattle.datum.proofs.Calls.{shift-answer, geoid-answer, none}

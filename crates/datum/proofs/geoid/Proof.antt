@@ -7,7 +7,7 @@ use Rattle.whole.proofs.Words.{of}
 use Rattle.kinds.specs.Answer.{Answer}
 use Rattle.datum.specs.Page.{Page, Family, isGeoid}
 use Rattle.datum.specs.Point.{pointOf}
-use Rattle.datum.specs.Cases.{datumPage, geoidPage}
+use Rattle.datum.specs.Inside.{datumPage, geoidPage}
 use Rattle.datum.specs.declared.Datum.{Datum}
 use Rattle.datum.proofs.Codes.{codePage}
 use Rattle.datum.proofs.Calls.{geoid-geoid, shift-geoid, none}

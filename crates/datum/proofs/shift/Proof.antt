@@ -7,7 +7,7 @@ use Rattle.whole.proofs.Words.{of}
 use Rattle.kinds.specs.Answer.{Answer}
 use Rattle.datum.specs.Page.{Page, Family, isShift}
 use Rattle.datum.specs.Point.{pointOf}
-use Rattle.datum.specs.Cases.{datumPage, shiftPage}
+use Rattle.datum.specs.Inside.{datumPage, shiftPage}
 use Rattle.datum.specs.declared.Datum.{Datum}
 use Rattle.datum.proofs.Codes.{codePage}
 use Rattle.datum.proofs.Calls.{shift-shift, geoid-shift, none}

@@ -2,8 +2,7 @@
 use mathlib.Core.Path.{_≡_, sym, ap, _∙_, subst}
 use Rattle.datum.specs.Page.{geoid}
 use Rattle.datum.specs.Point.{evaluated}
-use Rattle.datum.specs.Cases.{geoidPage}
-use Rattle.datum.specs.Asked.{Work}
+use Rattle.datum.specs.Inside.{geoidPage, Work}
 use Rattle.datum.specs.declared.GeoidDatum.{GeoidDatum}
 use borrow.Author.Needs.{needs}
 use Rattle.datum.proofs.GeoidDatum.evaluated.Statement.{statement}

@@ -1,6 +1,6 @@
 -- `datum::GeoidDatum::frame` meets its contract. Assumes nothing.
 use mathlib.Core.Path.{sym, ap}
-use Rattle.datum.specs.Cases.{geoidPage, frameOf}
+use Rattle.datum.specs.Inside.{geoidPage, frameOf}
 use Rattle.datum.specs.declared.GeoidDatum.{GeoidDatum}
 use borrow.Author.Needs.{needs}
 use Rattle.datum.proofs.GeoidDatum.frame.Statement.{statement}

@@ -5,8 +5,7 @@ use mir.Val.{SFits}
 use Rattle.whole.proofs.Words.{of}
 use Rattle.kinds.specs.Answer.{gives}
 use Rattle.datum.specs.Page.{Page}
-use Rattle.datum.specs.Cases.{shiftPage, frameOf, placeOf, placeAnswer}
-use Rattle.datum.specs.Asked.{Close}
+use Rattle.datum.specs.Inside.{shiftPage, frameOf, placeOf, placeAnswer, Close}
 use Rattle.datum.specs.declared.Place.{Place}
 use Rattle.datum.proofs.Limits.{close}
 use Rattle.datum.proofs.Codes.{shift-keeps}

@@ -2,8 +2,7 @@
 use mathlib.Core.Path.{_≡_, sym, ap, _∙_, subst}
 use Rattle.datum.specs.Page.{shift}
 use Rattle.datum.specs.Point.{evaluated}
-use Rattle.datum.specs.Cases.{shiftPage}
-use Rattle.datum.specs.Asked.{Work}
+use Rattle.datum.specs.Inside.{shiftPage, Work}
 use Rattle.datum.specs.declared.ShiftDatum.{ShiftDatum}
 use borrow.Author.Needs.{needs}
 use Rattle.datum.proofs.ShiftDatum.evaluated.Statement.{statement}

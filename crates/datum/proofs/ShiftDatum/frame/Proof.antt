@@ -1,6 +1,6 @@
 -- `datum::ShiftDatum::frame` meets its contract. Assumes nothing.
 use mathlib.Core.Path.{sym, ap}
-use Rattle.datum.specs.Cases.{shiftPage, frameOf}
+use Rattle.datum.specs.Inside.{shiftPage, frameOf}
 use Rattle.datum.specs.declared.ShiftDatum.{ShiftDatum}
 use borrow.Author.Needs.{needs}
 use Rattle.datum.proofs.ShiftDatum.frame.Statement.{statement}
