@@ -38,10 +38,13 @@ def column(text, name):
 def coded(text, name):
     """The terms that the code holds, and the comment after each coefficient."""
     numbers, comments = column(text, COLUMNS[name])
-    powers = [column(text, f'{COLUMNS[name]}_{letter}')[0] for letter in 'UV']
-    if not len(numbers) == len(powers[0]) == len(powers[1]):
+    powers = [column(text, f'{COLUMNS[name]}_{letter}') for letter in 'UV']
+    if not len(numbers) == len(powers[0][0]) == len(powers[1][0]):
         wrong.append(f'{name}: columns of different lengths')
-    return list(zip(numbers, *powers)), comments
+    letters = [comment.split(' ')[-1] if 'U' in comment or 'V' in comment else '1' for comment in comments]
+    if any(any(beside) and beside != letters for _, beside in powers):
+        wrong.append(f'{name}: a comment beside a power is not of its term')
+    return list(zip(numbers, powers[0][0], powers[1][0])), comments
 
 
 def defined(text, name):
