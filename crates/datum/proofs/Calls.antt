@@ -3,6 +3,9 @@ use mathlib.Core.Path.{_≡_, refl, sym, ap, _∙_}
 use mathlib.Core.Bool.{Bool, true, false, not}
 use mathlib.Core.List.{List}
 use lib.IntN.{ℤ}
+use mir.Syntax.{w64}
+use mir.Val.{SFits, toZ, ofZ}
+use Rattle.whole.proofs.Words.{of}
 use Rattle.equation.specs.Equation.{Term}
 use Rattle.kinds.specs.Answer.{Answer, gives, refused, provided}
 use Rattle.kinds.proofs.Answers.{passed, failed, same-value}
@@ -67,3 +70,12 @@ module _ (code latitude longitude : ℤ) where
 
     pub geoid-geoid : pointOf (geoidPage d) latitude longitude ≡ geoidOf code latitude longitude
     geoid-geoid = right isGeoid code latitude longitude (geoidPage d) (ap not (is-geoid d)) e
+
+-- ---- as the code has them, which reads a raw number back from its word
+-- the page that `of` gave for the code
+pub found : {code : ℤ} {a b : Answer Page} → SFits w64 code → a ≡ codePage (toZ w64 (ofZ w64 code)) → a ≡ b → codePage code ≡ b
+found f e h = ap codePage (sym (of f .reads)) ∙ sym e ∙ h
+
+-- what `at` gave for the point
+pub there : (page : Page) {latitude longitude : ℤ} {a : Answer (Family ℤ)} → SFits w64 latitude → SFits w64 longitude → a ≡ pointOf page (toZ w64 (ofZ w64 latitude)) (toZ w64 (ofZ w64 longitude)) → a ≡ pointOf page latitude longitude
+there page f g e = e ∙ (λ i. pointOf page (of f .reads i) (of g .reads i))

@@ -18,7 +18,7 @@ use Rattle.equation.specs.Powers.{powersOf}
 use Rattle.equation.specs.Equation.{Term, equationOf}
 use Rattle.datum.specs.Page.{Page, Family, shift, geoid, each}
 use Rattle.datum.specs.Point.{fromCentre, inArea, evaluated, powersU, powersV, pointOf}
-use Rattle.datum.specs.Inside.{frameOf, placeOf, Work}
+use Rattle.datum.specs.Inside.{frameOf, placeOf, AllFit}
 use Rattle.datum.proofs.Limits.{page-keeps, u-small, v-small, work}
 use Rattle.datum.proofs.Places.{as-small}
 
@@ -67,16 +67,16 @@ module _ (page : Page) (latitude longitude : ℤ) where
         pv-is : pv ≡ powersOf y 10
         pv-is = q ∙ ap (λ (z : ℤ). powersOf z 10) (of g .reads)
 
-        pub work-asks : Work (page .equations) pu pv
+        pub work-asks : AllFit (page .equations) pu pv
         work-asks =
-            subst₂ (Work (page .equations)) (sym pu-is) (sym pv-is)
-            (subst (λ (p : ℤ × ℤ). Work (page .equations) (powersOf (p .0) 10) (powersOf (p .1) 10)) (inside .1) (work page h latitude longitude (inside .0)))
+            subst₂ (AllFit (page .equations)) (sym pu-is) (sym pv-is)
+            (subst (λ (p : ℤ × ℤ). AllFit (page .equations) (powersOf (p .0) 10) (powersOf (p .1) 10)) (inside .1) (work page h latitude longitude (inside .0)))
 
         pub answered : {values : Family ℤ} → values ≡ evaluated (page .equations) pu pv → gives values ≡ pointOf page latitude longitude
         answered k = ap gives (k ∙ (λ i. evaluated (page .equations) (pu-is i) (pv-is i))) ∙ ap (finished (page .equations)) (sym e) ∙ by-place
 
 -- each of a point's values is in 4 bytes
-of-family : (equations : Family (List Term)) (pu pv : List ℤ) → Work equations pu pv → each isFourBytes (evaluated equations pu pv) ≡ true
+of-family : (equations : Family (List Term)) (pu pv : List ℤ) → AllFit equations pu pv → each isFourBytes (evaluated equations pu pv) ≡ true
 of-family (shift dLat dLon dH) pu pv w =
     joined (in-four-bytes (equationOf scale dLat pu pv) (w .0 .fits))
     (joined (in-four-bytes (equationOf scale dLon pu pv) (w .1 .fits)) (in-four-bytes (equationOf scale dH pu pv) (w .2 .fits)))

@@ -70,14 +70,14 @@ placeAnswer (Place.Refused r) = refused (numberOf r)
 
 -- ---- what is asked, and shown of every point of an area by the test that proofs/Limits computes
 -- of a table: no number on the way is larger than 64 bits hold, and 4 bytes hold the answer
-pub record Works (table : List Term) (pu pv : List ℤ) : Type 0 where
+pub record TableFits (table : List Term) (pu pv : List ℤ) : Type 0 where
   pub room : Room table pu pv
   pub fits : SFits w32 (equationOf scale table pu pv)
 
 -- of all tables of a datum
-abbrev pub Work : Family (List Term) → List ℤ → List ℤ → Type 0
-Work (shift dLat dLon dH) pu pv = Works dLat pu pv × Works dLon pu pv × Works dH pu pv
-Work (geoid n) pu pv = Works n pu pv
+abbrev pub AllFit : Family (List Term) → List ℤ → List ℤ → Type 0
+AllFit (shift dLat dLon dH) pu pv = TableFits dLat pu pv × TableFits dLon pu pv × TableFits dH pu pv
+AllFit (geoid n) pu pv = TableFits n pu pv
 
 -- of a frame: K and the centre are so small that no distance from the centre is too large
 pub record Close (frame : Frame) : Type 0 where

@@ -16,6 +16,7 @@ use kinds::LocalLatitudeAnswer;
 use kinds::LocalLongitude;
 use kinds::LocalLongitudeAnswer;
 use kinds::Refusal;
+use kinds::within;
 ghost use mathlib.Core.Path.{_≡_};
 ghost use mathlib.Core.Bool.{_&&_};
 ghost use Prim.Native.Nat.{_≤_};
@@ -27,7 +28,7 @@ ghost use Rattle.kinds.specs.Answer.{gives, provided};
 ghost use Rattle.kinds.specs.Kinds.{within};
 ghost use Rattle.datum.specs.Point.{isCode, pageOf, pointOf, answerOf, shiftOf, geoidOf, evaluated, fromCentre};
 ghost use Rattle.datum.specs.Cases.{shiftSays, geoidSays, shiftAnswer, geoidAnswer, pointAnswer};
-ghost use Rattle.datum.specs.Inside.{shiftPage, geoidPage, datumPage, frameOf, placeOf, placeAnswer, Works, Work, Close};
+ghost use Rattle.datum.specs.Inside.{shiftPage, geoidPage, datumPage, frameOf, placeOf, placeAnswer, TableFits, AllFit, Close};
 
 // The shifts of a point from its local datum to WGS 84.
 pub struct Shifts {
@@ -136,7 +137,7 @@ impl ShiftDatum {
     }
 
     fn evaluated(self, pu: [i64; 10], pv: [i64; 10]) -> Shifts
-        requires { ⌜ Work (shiftPage self .equations) pu pv ⌝ }
+        requires { ⌜ AllFit (shiftPage self .equations) pu pv ⌝ }
         ensures { λ r. ⌜ shiftSays r ≡ evaluated (shiftPage self .equations) pu pv ⌝ }
     {
         match self {
@@ -172,7 +173,7 @@ impl GeoidDatum {
     }
 
     fn evaluated(self, pu: [i64; 10], pv: [i64; 10]) -> Height
-        requires { ⌜ Work (geoidPage self .equations) pu pv ⌝ }
+        requires { ⌜ AllFit (geoidPage self .equations) pu pv ⌝ }
         ensures { λ r. ⌜ geoidSays r ≡ evaluated (geoidPage self .equations) pu pv ⌝ }
     {
         match self {
@@ -242,14 +243,9 @@ impl Frame {
     fn holds(self, latitude: LocalLatitude, longitude: LocalLongitude) -> bool
         ensures { λ r. ⌜ r ≡ within (self .south) (self .north) (latitude .0) && within (self .west) (self .east) (longitude .0) ⌝ }
     {
-        within(self.south, self.north, latitude.ms()) & within(self.west, self.east, longitude.ms())
+        within(self.south, self.north, latitude.ms() as i64)
+            & within(self.west, self.east, longitude.ms() as i64)
     }
-}
-
-fn within(least: i64, largest: i64, ms: i32) -> bool
-    ensures { λ r. ⌜ r ≡ within least largest ms ⌝ }
-{
-    (least <= ms as i64) & (ms as i64 <= largest)
 }
 
 // K times the distance from the centre, over the ms of a degree, rounded.
@@ -269,7 +265,7 @@ pub(crate) fn angle(
     pv: [i64; 10],
 ) -> AngleShift
     requires { ⌜ (length (now us) ≡ length (now coefficients)) × (length (now vs) ≡ length (now coefficients)) ⌝ }
-    requires { ⌜ Works (terms (now coefficients) (now us) (now vs)) pu pv ⌝ }
+    requires { ⌜ TableFits (terms (now coefficients) (now us) (now vs)) pu pv ⌝ }
     ensures { λ r. ⌜ r .0 ≡ equationOf scale (terms (now (coefficients .entry)) (now (us .entry)) (now (vs .entry))) pu pv ⌝ }
 {
     AngleShift::of(equation(coefficients, us, vs, pu, pv) as i32)
@@ -283,7 +279,7 @@ pub(crate) fn height(
     pv: [i64; 10],
 ) -> Height
     requires { ⌜ (length (now us) ≡ length (now coefficients)) × (length (now vs) ≡ length (now coefficients)) ⌝ }
-    requires { ⌜ Works (terms (now coefficients) (now us) (now vs)) pu pv ⌝ }
+    requires { ⌜ TableFits (terms (now coefficients) (now us) (now vs)) pu pv ⌝ }
     ensures { λ r. ⌜ r .0 ≡ equationOf scale (terms (now (coefficients .entry)) (now (us .entry)) (now (vs .entry))) pu pv ⌝ }
 {
     Height::of(equation(coefficients, us, vs, pu, pv) as i32)

@@ -5,7 +5,7 @@ use kinds::LocalLatitude;
 ghost use mathlib.Core.Path.{_≡_};
 ghost use Rattle.whole.specs.Round.{scale};
 ghost use Rattle.equation.specs.Equation.{equationOf};
-ghost use Rattle.datum.specs.Inside.{Works};
+ghost use Rattle.datum.specs.Inside.{TableFits};
 ghost use Rattle.datum.specs.Minna.{dLat, dLon, dH};
 
 // U = K (φ - 10), V = K (λ - 8), K = 0.15707963; the area is document 01's.
@@ -82,7 +82,7 @@ const HEIGHT_U: [u8; 9] = [0, 1, 0, 2, 4, 5, 2, 0, 3];
 const HEIGHT_V: [u8; 9] = [0, 0, 1, 1, 1, 1, 3, 5, 8];
 
 pub(crate) fn shift(pu: [i64; 10], pv: [i64; 10]) -> Shifts
-    requires { ⌜ Works dLat pu pv × Works dLon pu pv × Works dH pu pv ⌝ }
+    requires { ⌜ TableFits dLat pu pv × TableFits dLon pu pv × TableFits dH pu pv ⌝ }
     ensures { λ r. ⌜ (r .latitude .0 ≡ equationOf scale dLat pu pv) × (r .longitude .0 ≡ equationOf scale dLon pu pv) × (r .height .0 ≡ equationOf scale dH pu pv) ⌝ }
 {
     Shifts {

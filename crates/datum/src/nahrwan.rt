@@ -5,7 +5,7 @@ use kinds::LocalLatitude;
 ghost use mathlib.Core.Path.{_≡_};
 ghost use Rattle.whole.specs.Round.{scale};
 ghost use Rattle.equation.specs.Equation.{equationOf};
-ghost use Rattle.datum.specs.Inside.{Works};
+ghost use Rattle.datum.specs.Inside.{TableFits};
 ghost use Rattle.datum.specs.Nahrwan.{n};
 
 // U = K (φ - 23), V = K (λ - 57), K = 0.41887902; the area is document 01's.
@@ -35,7 +35,7 @@ const HEIGHT_U: [u8; 7] = [0, 1, 2, 3, 0, 0, 0];
 const HEIGHT_V: [u8; 7] = [0, 0, 0, 0, 1, 2, 3];
 
 pub(crate) fn geoid(pu: [i64; 10], pv: [i64; 10]) -> Height
-    requires { ⌜ Works n pu pv ⌝ }
+    requires { ⌜ TableFits n pu pv ⌝ }
     ensures { λ r. ⌜ r .0 ≡ equationOf scale n pu pv ⌝ }
 {
     super::height(&HEIGHT, &HEIGHT_U, &HEIGHT_V, pu, pv)

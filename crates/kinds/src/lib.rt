@@ -280,8 +280,8 @@ impl Wgs84Longitude {
     }
 }
 
-// Whether x is in range, both ends in.
-fn within(least: i64, largest: i64, x: i64) -> bool
+// Whether x is from the least to the largest, both in.
+pub fn within(least: i64, largest: i64, x: i64) -> bool
     ensures { λ r. ⌜ r ≡ within least largest x ⌝ }
 {
     (least <= x) & (x <= largest)

@@ -2,7 +2,7 @@
 use mathlib.Core.Path.{_≡_, sym, ap, _∙_, subst}
 use Rattle.datum.specs.Page.{geoid}
 use Rattle.datum.specs.Point.{evaluated}
-use Rattle.datum.specs.Inside.{geoidPage, Work}
+use Rattle.datum.specs.Inside.{geoidPage, AllFit}
 use Rattle.datum.specs.declared.GeoidDatum.{GeoidDatum}
 use borrow.Author.Needs.{needs}
 use Rattle.datum.proofs.GeoidDatum.evaluated.Statement.{statement}
@@ -10,8 +10,8 @@ use Rattle.datum.proofs.GeoidDatum.evaluated.Tie as tie
 
 -- the datum is d, and what is said of its page is said of d's
 module _ (s : tie.Start) {d : GeoidDatum} (e : s .args .self ≡ d) where
-  worked : Work (geoidPage d .equations) (s .args .pu) (s .args .pv)
-  worked = subst (λ (x : GeoidDatum). Work (geoidPage x .equations) (s .args .pu) (s .args .pv)) e (s .pre)
+  worked : AllFit (geoidPage d .equations) (s .args .pu) (s .args .pv)
+  worked = subst (λ (x : GeoidDatum). AllFit (geoidPage x .equations) (s .args .pu) (s .args .pv)) e (s .pre)
 
   same : evaluated (geoidPage d .equations) (s .args .pu) (s .args .pv) ≡ evaluated (geoidPage (s .args .self) .equations) (s .args .pu) (s .args .pv)
   same = ap (λ (x : GeoidDatum). evaluated (geoidPage x .equations) (s .args .pu) (s .args .pv)) (sym e)

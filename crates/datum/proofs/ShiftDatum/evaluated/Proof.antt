@@ -2,7 +2,7 @@
 use mathlib.Core.Path.{_≡_, sym, ap, _∙_, subst}
 use Rattle.datum.specs.Page.{shift}
 use Rattle.datum.specs.Point.{evaluated}
-use Rattle.datum.specs.Inside.{shiftPage, Work}
+use Rattle.datum.specs.Inside.{shiftPage, AllFit}
 use Rattle.datum.specs.declared.ShiftDatum.{ShiftDatum}
 use borrow.Author.Needs.{needs}
 use Rattle.datum.proofs.ShiftDatum.evaluated.Statement.{statement}
@@ -10,8 +10,8 @@ use Rattle.datum.proofs.ShiftDatum.evaluated.Tie as tie
 
 -- the datum is d, and what is said of its page is said of d's
 module _ (s : tie.Start) {d : ShiftDatum} (e : s .args .self ≡ d) where
-  worked : Work (shiftPage d .equations) (s .args .pu) (s .args .pv)
-  worked = subst (λ (x : ShiftDatum). Work (shiftPage x .equations) (s .args .pu) (s .args .pv)) e (s .pre)
+  worked : AllFit (shiftPage d .equations) (s .args .pu) (s .args .pv)
+  worked = subst (λ (x : ShiftDatum). AllFit (shiftPage x .equations) (s .args .pu) (s .args .pv)) e (s .pre)
 
   same : evaluated (shiftPage d .equations) (s .args .pu) (s .args .pv) ≡ evaluated (shiftPage (s .args .self) .equations) (s .args .pu) (s .args .pv)
   same = ap (λ (x : ShiftDatum). evaluated (shiftPage x .equations) (s .args .pu) (s .args .pv)) (sym e)
