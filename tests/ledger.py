@@ -28,7 +28,11 @@ there = {
 }
 to_cite = {('must-fail edits', p.split('/')[1], os.path.basename(p)[:-len('.edit')]) for p in glob.glob('crates/*/must-fail/*.edit')}
 for path in glob.glob('crates/*/proofs/Demands.antt'):
-    to_cite |= {('theorem', path.split('/')[1], name) for name in declared(path, r'^pub (?!record)(\S+) :')}
+    with open(path, encoding='utf-8') as f:
+        blocks = re.split(r'\n(?=\S)', f.read())
+    # a theorem stands by itself, or in a module with what it is about; what stands in a record is a part of one
+    found = [re.findall(r'^  pub (\S+) :' if b.startswith('module') else r'^pub (?!record)(\S+) :', b, re.M) for b in blocks]
+    to_cite |= {('theorem', path.split('/')[1], name) for names in found for name in names}
 
 wrong, cited, owed, rows, section = [], set(), 0, 0, ''
 with open('docs/LEDGER.md', encoding='utf-8') as f:

@@ -1,20 +1,20 @@
 -- What document 01 asks of the tables, of the areas and of a point's answer. Stated over specs/ alone. Assumes nothing.
 use mathlib.Core.Path.{_≡_, refl, sym, ap, subst}
-use mathlib.Core.Bool.{Bool, true, false, not, _&&_, false≢true}
-use mathlib.Core.List.{List, [], _∷_, map, Perm}
+use mathlib.Core.Bool.{Bool, true, false, not, false≢true}
+use mathlib.Core.List.{List, [], _∷_, map}
 use mathlib.Core.Logic.{_↔_, _⊎_}
-use Prim.Native.Nat.{ℕ, _+_, _-_}
+use Prim.Native.Nat.{ℕ}
 use lib.Dec.{T}
 use lib.IntN.{ℤ, pos}
 use Rattle.whole.specs.Round.{scale}
 use Rattle.kinds.specs.Answer.{Answer, gives, refused, provided}
-use Rattle.kinds.specs.Kinds.{within, isLatitude, isLongitude, isFourBytes}
+use Rattle.kinds.specs.Kinds.{within, isFourBytes}
 use Rattle.kinds.proofs.Answers.{number-back, rebuilt, determined}
 use Rattle.equation.specs.Equation.{Term}
 use Rattle.equation.proofs.Demands as equation
 use Rattle.datum.specs.Page.{Page, Family, shift, geoid, isShift, isGeoid, isEither, each}
-use Rattle.datum.specs.Point.{isCode, pages, pageOf, inArea, pointOf, powersU, powersV, evaluated, asked, answerOf, shiftOf, geoidOf}
-use Rattle.datum.specs.Tables.{counted, inAll, stands, every}
+use Rattle.datum.specs.Point.{isCode, pages, pageOf, inArea, inRange, evaluated, worked, pointOf, asked, answerOf, shiftOf, geoidOf}
+use Rattle.datum.specs.Tables.{counted, inAll, stands, Reordered, ends, every}
 use Rattle.datum.specs.Cases.{shiftAnswer, geoidAnswer, pointAnswer}
 use Rattle.kinds.specs.declared.Refusal.the-variants as Refusal
 use Rattle.kinds.specs.declared.HeightAnswer.{HeightAnswer}
@@ -38,25 +38,11 @@ terms-in-all = refl
 pub tables-stand : T (every (λ page. each stands (page .equations)) pages)
 tables-stand = tt
 
--- ---- 'Both ends belong to the area': the corners are in, and what is 1 ms outside an end is out
-abbrev pub ends : Page → Bool
-ends page =
-    inArea page (pos (page .south)) (pos (page .west)) && inArea page (pos (page .north)) (pos (page .east))
-    && not (inArea page (pos (page .south - 1)) (pos (page .west)))
-    && not (inArea page (pos (page .north + 1)) (pos (page .east)))
-    && not (inArea page (pos (page .south)) (pos (page .west - 1)))
-    && not (inArea page (pos (page .north)) (pos (page .east + 1)))
-
+-- ---- 'Both ends belong to the area'
 pub ends-belong : T (every ends pages)
 ends-belong = tt
 
--- ---- the answer does not depend on the order: tables that are a table's terms in another order give the same
-abbrev pub Reordered : Family (List Term) → Family (List Term) → Type 0
-Reordered (shift a b c) (shift d e f) = Perm a d × Perm b e × Perm c f
-Reordered (geoid m) (geoid n) = Perm m n
-Reordered (shift a b c) (geoid n) = ⊥
-Reordered (geoid n) (shift a b c) = ⊥
-
+-- ---- the answer does not depend on the order of a table's terms
 pub any-order : (f g : Family (List Term)) → Reordered f g → (pu pv : List ℤ) → evaluated f pu pv ≡ evaluated g pu pv
 any-order (shift a b c) (shift d e f) p pu pv = λ i. shift (equation.any-order scale (p .0) pu pv i) (equation.any-order scale (p .1) pu pv i) (equation.any-order scale (p .2) pu pv i)
 any-order (geoid m) (geoid n) p pu pv = ap geoid (equation.any-order scale p pu pv)
@@ -64,37 +50,32 @@ any-order (shift a b c) (geoid n) p pu pv = absurd p
 any-order (geoid n) (shift a b c) p pu pv = absurd p
 
 -- ---- 'Order for a point: 4, 5, 3, 6': when each number is given, whichever family is asked of
-abbrev pub isAsked : (Family (List Term) → Bool) → ℤ → Bool
-isAsked family code = family (pageOf code .equations)
+module _ (family : Family (List Term) → Bool) (code latitude longitude : ℤ) where
+  abbrev page : Page
+  page = pageOf code
 
-abbrev pub inRange : ℤ → ℤ → Bool
-inRange latitude longitude = isLatitude latitude && isLongitude longitude
+  abbrev isAsked : Bool
+  isAsked = family (page .equations)
 
-abbrev pub inside : ℤ → ℤ → ℤ → Bool
-inside code latitude longitude = inArea (pageOf code) latitude longitude
+  pub given-4 : (asked family code latitude longitude ≡ refused 4) ↔ (isCode code ≡ false)
+  given-4 = refusals.at-4 (isCode code) isAsked (inRange latitude longitude) (inArea page latitude longitude) (worked page latitude longitude)
 
-abbrev pub worked : ℤ → ℤ → ℤ → Family ℤ
-worked code latitude longitude = evaluated (pageOf code .equations) (powersU (pageOf code) latitude) (powersV (pageOf code) longitude)
+  pub given-5 : (asked family code latitude longitude ≡ refused 5) ↔ ((isCode code ≡ true) × (isAsked ≡ false))
+  given-5 = refusals.at-5 (isCode code) isAsked (inRange latitude longitude) (inArea page latitude longitude) (worked page latitude longitude)
 
-pub given-4 : (family : Family (List Term) → Bool) (code latitude longitude : ℤ) → (asked family code latitude longitude ≡ refused 4) ↔ (isCode code ≡ false)
-given-4 family code latitude longitude = refusals.at-4 (isCode code) (isAsked family code) (inRange latitude longitude) (inside code latitude longitude) (worked code latitude longitude)
+  pub given-3 : (asked family code latitude longitude ≡ refused 3) ↔ ((isCode code ≡ true) × ((isAsked ≡ true) × (inRange latitude longitude ≡ false)))
+  given-3 = refusals.at-3 (isCode code) isAsked (inRange latitude longitude) (inArea page latitude longitude) (worked page latitude longitude)
 
-pub given-5 : (family : Family (List Term) → Bool) (code latitude longitude : ℤ) → (asked family code latitude longitude ≡ refused 5) ↔ ((isCode code ≡ true) × (isAsked family code ≡ false))
-given-5 family code latitude longitude = refusals.at-5 (isCode code) (isAsked family code) (inRange latitude longitude) (inside code latitude longitude) (worked code latitude longitude)
+  pub given-6 : (asked family code latitude longitude ≡ refused 6) ↔ ((isCode code ≡ true) × ((isAsked ≡ true) × ((inRange latitude longitude ≡ true) × (inArea page latitude longitude ≡ false))))
+  given-6 = refusals.at-6 (isCode code) isAsked (inRange latitude longitude) (inArea page latitude longitude) (worked page latitude longitude)
 
-pub given-3 : (family : Family (List Term) → Bool) (code latitude longitude : ℤ) → (asked family code latitude longitude ≡ refused 3) ↔ ((isCode code ≡ true) × ((isAsked family code ≡ true) × (inRange latitude longitude ≡ false)))
-given-3 family code latitude longitude = refusals.at-3 (isCode code) (isAsked family code) (inRange latitude longitude) (inside code latitude longitude) (worked code latitude longitude)
+  -- no other number is given
+  pub given-one-of : (n : ℕ) → asked family code latitude longitude ≡ refused n → (n ≡ 4) ⊎ ((n ≡ 5) ⊎ ((n ≡ 3) ⊎ (n ≡ 6)))
+  given-one-of = refusals.one-of (isCode code) isAsked (inRange latitude longitude) (inArea page latitude longitude) (worked page latitude longitude)
 
-pub given-6 : (family : Family (List Term) → Bool) (code latitude longitude : ℤ) → (asked family code latitude longitude ≡ refused 6) ↔ ((isCode code ≡ true) × ((isAsked family code ≡ true) × ((inRange latitude longitude ≡ true) × (inside code latitude longitude ≡ false))))
-given-6 family code latitude longitude = refusals.at-6 (isCode code) (isAsked family code) (inRange latitude longitude) (inside code latitude longitude) (worked code latitude longitude)
-
--- no other number is given
-pub given-one-of : (family : Family (List Term) → Bool) (code latitude longitude : ℤ) (n : ℕ) → asked family code latitude longitude ≡ refused n → (n ≡ 4) ⊎ ((n ≡ 5) ⊎ ((n ≡ 3) ⊎ (n ≡ 6)))
-given-one-of family code latitude longitude = refusals.one-of (isCode code) (isAsked family code) (inRange latitude longitude) (inside code latitude longitude) (worked code latitude longitude)
-
--- and where none is, the answer is the one that the printed coefficients give
-pub answered : (family : Family (List Term) → Bool) (code latitude longitude : ℤ) (values : Family ℤ) → (asked family code latitude longitude ≡ gives values) ↔ (((isCode code ≡ true) × (isAsked family code ≡ true)) × (((inRange latitude longitude ≡ true) × (inside code latitude longitude ≡ true)) × (worked code latitude longitude ≡ values)))
-answered family code latitude longitude = refusals.given (isCode code) (isAsked family code) (inRange latitude longitude) (inside code latitude longitude) (worked code latitude longitude)
+  -- and where none is, the answer is the one that the printed coefficients give
+  pub answered : (values : Family ℤ) → (asked family code latitude longitude ≡ gives values) ↔ (((isCode code ≡ true) × (isAsked ≡ true)) × (((inRange latitude longitude ≡ true) × (inArea page latitude longitude ≡ true)) × (worked page latitude longitude ≡ values)))
+  answered = refusals.given (isCode code) isAsked (inRange latitude longitude) (inArea page latitude longitude) (worked page latitude longitude)
 
 -- ---- 'a shift is asked of code 5 or 6, or a geoid height of code 1 to 4'
 pub shift-5 : (code latitude longitude : ℤ) → (shiftOf code latitude longitude ≡ refused 5) ↔ (within (pos 5) (pos 6) code ≡ true)
@@ -114,13 +95,13 @@ pub answer-never-5 : (code latitude longitude : ℤ) → answerOf code latitude 
 answer-never-5 code latitude longitude h = false≢true (sym (given-5 isEither code latitude longitude .0 h .1))
 
 -- and a shift or a geoid height is that, with the family tested
-pub family-tested : (family : Family (List Term) → Bool) (code latitude longitude : ℤ) → asked family code latitude longitude ≡ provided (isCode code) 4 (provided (isAsked family code) 5 (answerOf code latitude longitude))
+pub family-tested : (family : Family (List Term) → Bool) (code latitude longitude : ℤ) → asked family code latitude longitude ≡ provided (isCode code) 4 (provided (isAsked family code latitude longitude) 5 (answerOf code latitude longitude))
 family-tested family code latitude longitude = go (isCode code)
   where
     point : Answer (Family ℤ)
     point = pointOf (pageOf code) latitude longitude
 
-    go : (b : Bool) → provided b 4 (provided (isAsked family code) 5 point) ≡ provided b 4 (provided (isAsked family code) 5 (provided b 4 point))
+    go : (b : Bool) → provided b 4 (provided (isAsked family code latitude longitude) 5 point) ≡ provided b 4 (provided (isAsked family code latitude longitude) 5 (provided b 4 point))
     go true = refl
     go false = refl
 

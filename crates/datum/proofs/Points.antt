@@ -1,6 +1,6 @@
 -- A point's answer from its place: of any page that keeps its limits. Assumes nothing.
 use mathlib.Core.Path.{_≡_, refl, sym, ap, _∙_, subst, subst₂}
-use mathlib.Core.Bool.{Bool, true, false, _&&_}
+use mathlib.Core.Bool.{Bool, true, false}
 use mathlib.Core.List.{List}
 use Prim.Native.Nat.{ℕ, _≤_}
 use lib.Dec.{T}
@@ -11,13 +11,13 @@ use mir.Val.{SFits, toZ, ofZ}
 use Rattle.whole.specs.Round.{scale}
 use Rattle.whole.proofs.Words.{of}
 use Rattle.whole.proofs.Bools.{joined}
-use Rattle.kinds.specs.Kinds.{isLatitude, isLongitude, isFourBytes}
+use Rattle.kinds.specs.Kinds.{isFourBytes}
 use Rattle.kinds.proofs.Tested.{in-four-bytes}
 use Rattle.kinds.proofs.Answers.{passed, same-value}
 use Rattle.equation.specs.Powers.{powersOf}
 use Rattle.equation.specs.Equation.{Term, equationOf}
 use Rattle.datum.specs.Page.{Page, Family, shift, geoid, each}
-use Rattle.datum.specs.Point.{fromCentre, inArea, evaluated, powersU, powersV, pointOf}
+use Rattle.datum.specs.Point.{fromCentre, inArea, inRange, evaluated, powersU, powersV, worked, pointOf}
 use Rattle.datum.specs.Inside.{frameOf, placeOf, AllFit}
 use Rattle.datum.proofs.Limits.{page-keeps, u-small, v-small, work}
 use Rattle.datum.proofs.Places.{as-small}
@@ -35,9 +35,9 @@ module _ (page : Page) (latitude longitude : ℤ) where
   v = fromCentre (pos (page .k)) (pos (page .longitude)) longitude
 
   by-place : finished (page .equations) (placeOf (frameOf page) latitude longitude) ≡ pointOf page latitude longitude
-  by-place = go (isLatitude latitude && isLongitude longitude) (inArea page latitude longitude)
+  by-place = go (inRange latitude longitude) (inArea page latitude longitude)
     where
-      go : (a b : Bool) → finished (page .equations) (provided a 3 (provided b 6 (gives (u, v)))) ≡ provided a 3 (provided b 6 (gives (evaluated (page .equations) (powersU page latitude) (powersV page longitude))))
+      go : (a b : Bool) → finished (page .equations) (provided a 3 (provided b 6 (gives (u, v)))) ≡ provided a 3 (provided b 6 (gives (worked page latitude longitude)))
       go true true = refl
       go true false = refl
       go false b = refl
@@ -48,7 +48,7 @@ module _ (page : Page) (latitude longitude : ℤ) where
   module _ {x y : ℤ} (e : placeOf (frameOf page) latitude longitude ≡ gives (x, y)) where
     inside : (inArea page latitude longitude ≡ true) × _≡_ {A = ℤ × ℤ} (u, v) (x, y)
     inside =
-        let a = passed (isLatitude latitude && isLongitude longitude) 3 (provided (inArea page latitude longitude) 6 (gives (u, v))) e in
+        let a = passed (inRange latitude longitude) 3 (provided (inArea page latitude longitude) 6 (gives (u, v))) e in
         let b = passed (inArea page latitude longitude) 6 (gives (u, v)) (a .1) in
         (b .0, same-value (b .1))
 
@@ -82,5 +82,5 @@ of-family (shift dLat dLon dH) pu pv w =
     (joined (in-four-bytes (equationOf scale dLon pu pv) (w .1 .fits)) (in-four-bytes (equationOf scale dH pu pv) (w .2 .fits)))
 of-family (geoid n) pu pv w = in-four-bytes (equationOf scale n pu pv) (w .fits)
 
-pub fit : (page : Page) → T (page-keeps page) → (latitude longitude : ℤ) → inArea page latitude longitude ≡ true → each isFourBytes (evaluated (page .equations) (powersU page latitude) (powersV page longitude)) ≡ true
+pub fit : (page : Page) → T (page-keeps page) → (latitude longitude : ℤ) → inArea page latitude longitude ≡ true → each isFourBytes (worked page latitude longitude) ≡ true
 fit page h latitude longitude inside = of-family (page .equations) (powersU page latitude) (powersV page longitude) (work page h latitude longitude inside)

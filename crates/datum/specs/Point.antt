@@ -21,7 +21,7 @@ use Rattle.datum.specs.Nahrwan.{nahrwan}
 abbrev pub isCode : ℤ → Bool
 isCode code = within (pos 1) (pos 6) code
 
--- their pages, in order
+-- their pages, in order; asked only of a number that is a code
 abbrev pub pages : List Page
 pages = cyprus ∷ minna ∷ alaska ∷ qatar ∷ kandawala ∷ nahrwan ∷ []
 
@@ -49,13 +49,19 @@ abbrev pub evaluated : Family (List Term) → List ℤ → List ℤ → Family �
 evaluated (shift dLat dLon dH) pu pv = shift (equationOf scale dLat pu pv) (equationOf scale dLon pu pv) (equationOf scale dH pu pv)
 evaluated (geoid n) pu pv = geoid (equationOf scale n pu pv)
 
+abbrev pub worked : Page → ℤ → ℤ → Family ℤ
+worked page latitude longitude = evaluated (page .equations) (powersU page latitude) (powersV page longitude)
+
 -- ---- the answer
+abbrev pub inRange : ℤ → ℤ → Bool
+inRange latitude longitude = isLatitude latitude && isLongitude longitude
+
 -- of a datum: 3, 6
 abbrev pub pointOf : Page → ℤ → ℤ → Answer (Family ℤ)
 pointOf page latitude longitude =
-    provided (isLatitude latitude && isLongitude longitude) 3
+    provided (inRange latitude longitude) 3
     (provided (inArea page latitude longitude) 6
-    (gives (evaluated (page .equations) (powersU page latitude) (powersV page longitude))))
+    (gives (worked page latitude longitude)))
 
 -- of a code, asked of a family: 4, 5, 3, 6
 abbrev pub asked : (Family (List Term) → Bool) → ℤ → ℤ → ℤ → Answer (Family ℤ)

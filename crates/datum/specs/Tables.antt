@@ -1,11 +1,13 @@
--- Document 01, 'The six areas': how many terms the equations have, and how the tables stand.
-use mathlib.Core.Bool.{Bool, true, _&&_, _||_}
-use mathlib.Core.List.{List, [], _∷_}
-use Prim.Native.Nat.{ℕ, _+_}
+-- Document 01, 'The six areas': how many terms the equations have, how the tables stand, and where the areas end.
+use mathlib.Core.Bool.{Bool, true, not, _&&_, _||_}
+use mathlib.Core.List.{List, [], _∷_, Perm}
+use Prim.Native.Nat.{ℕ, _+_, _-_}
 use lib.Dec.{eqb, ltb}
+use lib.IntN.{pos}
 use lib.ListN.{length}
 use Rattle.equation.specs.Equation.{Term, term}
 use Rattle.datum.specs.Page.{Page, Family, shift, geoid}
+use Rattle.datum.specs.Point.{inArea}
 
 -- the terms of each equation, with the constant
 abbrev pub counted : Family (List Term) → Family ℕ
@@ -24,13 +26,29 @@ inAll (page ∷ rest) = total (counted (page .equations)) + inAll rest
 abbrev pub before : Term → Term → Bool
 before (term c i j) (term d k l) = ltb j l || (eqb j l && ltb i k)
 
-abbrev pub belowTen : Term → Bool
+abbrev belowTen : Term → Bool
 belowTen (term c i j) = ltb i 10 && ltb j 10
 
 abbrev pub stands : List Term → Bool
 stands [] = true
 stands (t ∷ []) = belowTen t
 stands (s ∷ t ∷ ts) = belowTen s && (before s t && stands (t ∷ ts))
+
+-- the same terms in another order
+abbrev pub Reordered : Family (List Term) → Family (List Term) → Type 0
+Reordered (shift a b c) (shift d e f) = Perm a d × Perm b e × Perm c f
+Reordered (geoid m) (geoid n) = Perm m n
+Reordered (shift a b c) (geoid n) = ⊥
+Reordered (geoid n) (shift a b c) = ⊥
+
+-- two corners of the area are in it, and what is 1 ms outside an end is not
+abbrev pub ends : Page → Bool
+ends page =
+    inArea page (pos (page .south)) (pos (page .west)) && inArea page (pos (page .north)) (pos (page .east))
+    && not (inArea page (pos (page .south - 1)) (pos (page .west)))
+    && not (inArea page (pos (page .north + 1)) (pos (page .east)))
+    && not (inArea page (pos (page .south)) (pos (page .west - 1)))
+    && not (inArea page (pos (page .north)) (pos (page .east + 1)))
 
 -- whether a test holds of every page
 abbrev pub every : (Page → Bool) → List Page → Bool
