@@ -31,7 +31,7 @@ def equations(code):
         body = ' '.join(body.split())
         terms, at = [], 0
         for m in re.finditer(r'([+-]?) ?(\d+)\.(\d+) ?(U(?:\^\d)?)?(V(?:\^\d)?)? ?', body):
-            if m.start() != at or len(m[3]) > places:
+            if m.start() != at or len(m[3]) > places or (terms and not m[1]):
                 raise SystemExit(f'document 000, Table {TABLES[code]}: cannot read {body[at:]}')
             at = m.end()
             size = int(m[2] + m[3].ljust(places, '0'))

@@ -3,8 +3,8 @@
 
 Each term as the page prints it, in the page's order, with what the definition and the code hold for its powers, read from
 their sources; and before each datum its centre and K. Ends with an error where the three disagree, where a table does not
-stand by rising power of longitude, then of latitude, where a comment beside the code is not the page's text, or where the
-centre, K or the area is another than the papers'.
+stand by rising power of longitude, then of latitude, or under its own name, where a comment beside the code is not the page's
+text, or where the centre, K or the area is another than the papers'.
 --check prints only what is wrong and the count.
 """
 import re
@@ -29,10 +29,13 @@ def source(path):
 
 
 def column(text, name):
-    """The numbers of a constant array, and the comment after each."""
-    body = re.search(rf'^const {name}: \[\w+; \d+\] = \[(.*?)\];', text, re.M | re.S)[1]
-    found = re.findall(r'(-?[\d_]+),?(?: // (.*))?', body)
-    return [int(n) for n, _ in found], [comment for _, comment in found]
+    """The numbers of a constant array, as many as it is declared to have, and the comment after each."""
+    count, body = re.search(rf'^const {name}: \[\w+; (\d+)\] = \[(.*?)\];', text, re.M | re.S).groups()
+    rows = body.strip('\n').split('\n') if '\n' in body else [f'    {n.strip()},' for n in body.split(',')]
+    found = [re.fullmatch(r'    (-?[\d_]+),(?: // (.*))?', row) for row in rows]
+    if not all(found) or len(found) != int(count):
+        raise SystemExit(f'{name}: a row that is no number, or another count than {count}')
+    return [int(m[1]) for m in found], [m[2] or '' for m in found]
 
 
 def coded(text, name):
@@ -40,26 +43,37 @@ def coded(text, name):
     numbers, comments = column(text, COLUMNS[name])
     powers = [column(text, f'{COLUMNS[name]}_{letter}') for letter in 'UV']
     if not len(numbers) == len(powers[0][0]) == len(powers[1][0]):
-        wrong.append(f'{name}: columns of different lengths')
+        raise SystemExit(f'{COLUMNS[name]}: columns of different lengths')
     letters = [comment.split(' ')[-1] if 'U' in comment or 'V' in comment else '1' for comment in comments]
     if any(any(beside) and beside != letters for _, beside in powers):
-        wrong.append(f'{name}: a comment beside a power is not of its term')
+        wrong.append(f'{COLUMNS[name]}: a comment beside a power is not of its term')
     return list(zip(numbers, powers[0][0], powers[1][0])), comments
 
 
 def defined(text, name):
-    """The terms of the definition."""
+    """The terms of the definition, a line each."""
     body = re.search(rf'^{name if name != "N" else "n"} =\n(.*?)\n    ∷ \[\]\n', text, re.M | re.S)[1]
-    rows = re.findall(r'(plus|minus) (\d+) U\^ (\d) V\^ (\d)$', body, re.M)
-    if len(rows) != len(body.split('\n')):
-        wrong.append(f'{name}: the definition has a line that is no term')
-    return [(int(n) if sign == 'plus' else -int(n), int(i), int(j)) for sign, n, i, j in rows]
+    rows = [re.fullmatch(r'    (?:∷ )?(plus|minus) (\d+) U\^ (\d) V\^ (\d)', row) for row in body.split('\n')]
+    if not all(rows):
+        raise SystemExit(f'{name}: the definition has a line that is no term')
+    return [(int(m[2]) if m[1] == 'plus' else -int(m[2]), int(m[3]), int(m[4])) for m in rows]
 
 
 def sentence(text, name):
     """The printed equation in the comment above a table."""
     lines = re.search(rf'((?:^// .*\n)+)const {COLUMNS[name]}:', text, re.M)[1].split('\n')
     return re.sub(r' +', ' ', ' '.join(line[len('// '):] for line in lines if line)).split(' = ')[1].strip()
+
+
+def placed(code, text, definition):
+    """Each table stands under its own name, in the definition's page and in the code's call."""
+    shift = code <= 4
+    held = 'equations = shift dLat dLon dH;' if shift else 'equations = geoid n;'
+    calls = [('latitude: super::angle', 'LATITUDE'), ('longitude: super::angle', 'LONGITUDE'), ('height: super::height', 'HEIGHT')]
+    calls = calls if shift else [('super::height', 'HEIGHT')]
+    lines = [f'{call}(&{name}, &{name}_U, &{name}_V, pu, pv)' for call, name in calls]
+    if definition.count(held) != 1 or any(text.count(line) != 1 for line in lines):
+        wrong.append(f'code {code}: a table stands for another')
 
 
 def angle(text):
@@ -80,8 +94,10 @@ def framed(code, text, definition):
             wrong.append(f'code {code}: the definition has another {name}')
     if f'    k: {factor:_},\n' not in text or f'  k = {factor};\n' not in definition:
         wrong.append(f'code {code}: another K')
-    printed = f'{factor // 10 ** 8}.{factor % 10 ** 8:08d}'
-    return f'code {code}: Table {document_000.TABLES[code]}. U = K (φ - {latitude}), V = K (λ - {longitude}), K = {printed}'
+    printed = f'U = K (φ - {latitude}), V = K (λ - {longitude}), K = {factor // 10 ** 8}.{factor % 10 ** 8:08d}'
+    if f'// {printed}; the area is document 01\'s.\n' not in text or f'Table {document_000.TABLES[code]}' not in text:
+        wrong.append(f'code {code}: the comment above the frame is not the page\'s text')
+    return f'code {code}: Table {document_000.TABLES[code]}. {printed}'
 
 
 def listed(code):
@@ -89,6 +105,7 @@ def listed(code):
     name = DATUMS[code][0]
     text, definition = source(f'src/{name}.rt'), source(f'specs/{name.capitalize()}.antt')
     lines, count = [framed(code, text, definition)], 0
+    placed(code, text, definition)
     for equation, _, printed in document_000.equations(code):
         held, comments = coded(text, equation)
         meant = defined(definition, equation)

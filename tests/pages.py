@@ -95,12 +95,12 @@ PRINTED = [
     (5, ms(7, 37, 2) + 730, ms(81, 40, 49) + 750, '-4.55'),
     (6, ms(24, 58, 7) + 671, ms(55, 0, 7) + 720, '1.11'),
 ]
-# The same as document 01 and its issues have them worked.
+# The same worked by the rule: codes 1 and 2 as document 01 has them, the others as they were given with it.
 WORKED = ['-388460 -112641 23638', '92953 -234783 13429', '-264775 -952519 19198', '246464 -280607 -29637', '-4547', '1110']
 CENTRES = ['-384288 -110294 24430', '49461 -262435 20013', '-208611 -819369 8352', '247363 -280439 -28376', '-979', '7464']
-# Points of each area that no paper gives, and the west end of code 6, where a power is largest. The first few are points at
-# which a slip of document 01's 'Ways to get it wrong' is seen in the last unit: u or its powers cut toward zero, an even power
-# as the square of another, one more digit of pi in K.
+# Points of each area that no paper gives. First those at which a slip that document 01 warns of is seen in the last unit: u or
+# its powers cut toward zero, an even power as the square of its half, a term rounded before the sum, one more digit of pi in
+# K. Last the west end of code 6, where a power is largest.
 SLIPS = {
     'u': [(1, 128_650_240, 121_702_337), (2, 25_962_111, 31_138_852), (3, 239_342_002, 759_699_061)],
     'power': [(1, 127_547_730, 123_444_793), (2, 37_799_917, 13_767_165), (3, 236_571_005, 701_633_307)],
@@ -290,7 +290,7 @@ def check():
     for (code, latitude, longitude, printed), answer in zip(PRINTED, WORKED):
         found = worked(code, latitude, longitude)
         if found != answer:
-            wrong.append(f'the test point of code {code} gives {found}, and the paper says {answer}')
+            wrong.append(f'the test point of code {code} gives {found}, and was worked as {answer}')
         wrong += [f'the test point of code {code}: {x} is not near {y}' for x, y, near in beside(found, printed) if not near]
     wrong += [f'the slip {slip} is not seen at {p}' for slip, places in SLIPS.items() for p in places if worked(*p, slip) == worked(*p)]
     with open('crates/pages/stdout', encoding='ascii') as f:
