@@ -29,20 +29,20 @@ use Rattle.datum.specs.Inside.{frameOf, TableFits, AllFit, Close}
 
 -- ---- the test
 -- the farthest from the centre, in ms, and in hundred-millionths
-abbrev pub farthest : ℕ → ℕ → ℕ → ℕ
+abbrev farthest : ℕ → ℕ → ℕ → ℕ
 farthest centre least largest = max (centre - least) (largest - centre)
 
-abbrev pub most-u : Page → ℕ
+abbrev most-u : Page → ℕ
 most-u page = nearest (page .k * farthest (page .latitude) (page .south) (page .north)) 3600000
 
-abbrev pub most-v : Page → ℕ
+abbrev most-v : Page → ℕ
 most-v page = nearest (page .k * farthest (page .longitude) (page .west) (page .east)) 3600000
 
-abbrev pub all-keep : ℕ → ℕ → Family (List Term) → Bool
+abbrev all-keep : ℕ → ℕ → Family (List Term) → Bool
 all-keep mu mv (shift dLat dLon dH) = keeps scale mu mv dLat && (keeps scale mu mv dLon && keeps scale mu mv dH)
 all-keep mu mv (geoid n) = keeps scale mu mv n
 
-abbrev pub frame-keeps : Page → Bool
+abbrev frame-keeps : Page → Bool
 frame-keeps page = leb (page .k) 1000000000 && (leb (page .latitude) 2000000000 && leb (page .longitude) 2000000000)
 
 abbrev pub page-keeps : Page → Bool
@@ -60,7 +60,7 @@ away c s n x h k =
     (omega (arith, le-max-right (c - s) (n - c)))
     (omega (arith, le-max-left (c - s) (n - c))))
 
-pub away-within : (c s n : ℕ) (x : ℤ) → within (pos s) (pos n) x ≡ true → natAbs (x -ℤ pos c) ≤ farthest c s n
+away-within : (c s n : ℕ) (x : ℤ) → within (pos s) (pos n) x ≡ true → natAbs (x -ℤ pos c) ≤ farthest c s n
 away-within c s n (pos x) t =
     let h = both (leZ (pos s) (pos x)) (leZ (pos x) (pos n)) t in
     away c s n x (leb-true s x (h .0)) (leb-true x n (h .1))

@@ -19,15 +19,15 @@ use Rattle.equation.proofs.Sums.{sum-size}
 
 -- ---- the test, of the limits mu of u and mv of v
 -- a term's powers are among the ten, and 64 bits hold what is divided
-abbrev pub term-keeps : ℕ → ℕ → Term → Bool
+abbrev term-keeps : ℕ → ℕ → Term → Bool
 term-keeps mu mv (term c i j) = ltb i 10 && (ltb j 10 && ltb (limit mu i * limit mv j) 9223372036854775808)
 
-abbrev pub terms-keep : ℕ → ℕ → List Term → Bool
+abbrev terms-keep : ℕ → ℕ → List Term → Bool
 terms-keep mu mv [] = true
 terms-keep mu mv (t ∷ ts) = term-keeps mu mv t && terms-keep mu mv ts
 
 -- the largest that the terms' sizes come to
-abbrev pub reach : ℕ → ℕ → List Term → ℕ
+abbrev reach : ℕ → ℕ → List Term → ℕ
 reach mu mv [] = 0
 reach mu mv (term c i j ∷ ts) = natAbs c * nearest (limit mu i * limit mv j) scale + reach mu mv ts
 

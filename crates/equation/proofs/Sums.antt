@@ -50,7 +50,7 @@ module _ (pu pv : List ℤ) where
   unfolding sum
   sum-first (term c i j) ts = refl
 
-  pub sum-last : (ts : List Term) (t : Term) → sum (ts ++ (t ∷ [])) pu pv ≡ sum ts pu pv +ℤ value t pu pv
+  sum-last : (ts : List Term) (t : Term) → sum (ts ++ (t ∷ [])) pu pv ≡ sum ts pu pv +ℤ value t pu pv
   unfolding sum
   sum-last [] t = sum-first t [] ∙ +ℤ-idr (value t pu pv) ∙ sym (+ℤ-idl (value t pu pv))
   sum-last (s ∷ ts) t =
