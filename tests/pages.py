@@ -301,6 +301,6 @@ def check():
 
 if '--check' in sys.argv:
     problems, held = check()
-    print('\n'.join(problems) or f'pages: {text().count(chr(10))} lines and {held} points of document 01 agree')
+    print('\n'.join(problems) or f'pages: {text().count(chr(10))} lines and {held} points of the papers agree')
     sys.exit(1 if problems else 0)
 sys.stdout.write(text())

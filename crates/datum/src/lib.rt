@@ -49,7 +49,9 @@ pub enum PointAnswer {
     Refused(Refusal),
 }
 
-// The shift of a point of codes 1 to 4. Refusals, in this order: 4, 5, 3, 6.
+// The shift of a point of codes 1 to 4, by its latitude and longitude on the local datum in ms. Refused, in this order, with
+// 4 where there is no such code, 5 of a geoid datum, 3 where a coordinate is out of range, 6 outside the datum's area.
+// shift(1, 126_000_000, 118_800_000), the centre of code 1, gives -3.84288", -1.10294" and 24.430 m.
 pub fn shift(code: i64, latitude: i64, longitude: i64) -> ShiftAnswer
     ensures { λ r. ⌜ shiftAnswer r ≡ shiftOf code latitude longitude ⌝ }
 {
@@ -60,7 +62,8 @@ pub fn shift(code: i64, latitude: i64, longitude: i64) -> ShiftAnswer
     }
 }
 
-// The geoid height of a point of codes 5 and 6. Refusals, in this order: 4, 5, 3, 6.
+// The geoid height of a point of codes 5 and 6, likewise; refused with 5 of a shift datum.
+// geoid(6, 82_800_000, 205_200_000), the centre of code 6, gives 7.464 m.
 pub fn geoid(code: i64, latitude: i64, longitude: i64) -> HeightAnswer
     ensures { λ r. ⌜ geoidAnswer r ≡ geoidOf code latitude longitude ⌝ }
 {
@@ -71,7 +74,7 @@ pub fn geoid(code: i64, latitude: i64, longitude: i64) -> HeightAnswer
     }
 }
 
-// What the point's datum has: its shift, or its geoid height. Refusals, in this order: 4, 3, 6.
+// What the point's datum has, its shift or its geoid height: refused, in this order, with 4, 3, 6 as above, and never with 5.
 pub fn answer(code: i64, latitude: i64, longitude: i64) -> PointAnswer
     ensures { λ r. ⌜ pointAnswer r ≡ answerOf code latitude longitude ⌝ }
 {
@@ -219,6 +222,7 @@ enum PlaceAnswer {
 }
 
 impl Frame {
+    // Where a point stands; refused with 3 out of range, and with 6 outside the area.
     fn place(self, latitude: i64, longitude: i64) -> PlaceAnswer
         requires { ⌜ Close self ⌝ }
         ensures { λ r. ⌜ placeAnswer r ≡ placeOf self latitude longitude ⌝ }
