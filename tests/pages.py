@@ -95,7 +95,7 @@ PRINTED = [
     (5, ms(7, 37, 2) + 730, ms(81, 40, 49) + 750, '-4.55'),
     (6, ms(24, 58, 7) + 671, ms(55, 0, 7) + 720, '1.11'),
 ]
-# The same worked by the rule: codes 1 and 2 as document 01 has them, the others as they were given with it.
+# The same worked by the rule: codes 1 and 2 as document 01 has them, the others as they were given by those who asked for them.
 WORKED = ['-388460 -112641 23638', '92953 -234783 13429', '-264775 -952519 19198', '246464 -280607 -29637', '-4547', '1110']
 CENTRES = ['-384288 -110294 24430', '49461 -262435 20013', '-208611 -819369 8352', '247363 -280439 -28376', '-979', '7464']
 # Points of each area that no paper gives. First those at which a slip that document 01 warns of is seen in the last unit: u or
