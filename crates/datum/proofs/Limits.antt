@@ -119,18 +119,18 @@ module _ (page : Page) (h : T (page-keeps page)) where
     pub v-small : natAbs v ≤ 1000000000
     v-small = le-trans v-size (leb→le (most-v page) 1000000000 (last .0))
 
-    works : (table : List Term) → T (keeps scale (most-u page) (most-v page) table) → TableFits table (powersOf u 10) (powersOf v 10)
+    works : (table : List Term) → T (keeps scale (most-u page) (most-v page) table) → TableFits table (powersOf scale u 10) (powersOf scale v 10)
     works table k = record {
       room = room u v u-size v-size scale table k;
-      fits = small (equationOf scale table (powersOf u 10) (powersOf v 10)) (in-four-bytes u v u-size v-size scale table k (lit< tt));
+      fits = small (equationOf scale table (powersOf scale u 10) (powersOf scale v 10)) (in-four-bytes u v u-size v-size scale table k (lit< tt));
     }
 
-    by-family : (tables : Family (List Term)) → T (all-keep (most-u page) (most-v page) tables) → AllFit tables (powersOf u 10) (powersOf v 10)
+    by-family : (tables : Family (List Term)) → T (all-keep (most-u page) (most-v page) tables) → AllFit tables (powersOf scale u 10) (powersOf scale v 10)
     by-family (shift dLat dLon dH) k =
         let a = and-yes (keeps scale (most-u page) (most-v page) dLat) (keeps scale (most-u page) (most-v page) dLon && keeps scale (most-u page) (most-v page) dH) k in
         let b = and-yes (keeps scale (most-u page) (most-v page) dLon) (keeps scale (most-u page) (most-v page) dH) (a .1) in
         (works dLat (a .0), works dLon (b .0), works dH (b .1))
     by-family (geoid n) k = works n k
 
-    pub work : AllFit (page .equations) (powersOf u 10) (powersOf v 10)
+    pub work : AllFit (page .equations) (powersOf scale u 10) (powersOf scale v 10)
     work = by-family (page .equations) (last .1)

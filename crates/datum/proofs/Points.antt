@@ -24,7 +24,7 @@ use Rattle.datum.proofs.Places.{as-small}
 
 -- what is left to do with a place
 abbrev finished : Family (List Term) → Answer (ℤ × ℤ) → Answer (Family ℤ)
-finished equations (gives p) = gives (evaluated equations (powersOf (p .0) 10) (powersOf (p .1) 10))
+finished equations (gives p) = gives (evaluated equations (powersOf scale (p .0) 10) (powersOf scale (p .1) 10))
 finished equations (refused n) = refused n
 
 module _ (page : Page) (latitude longitude : ℤ) where
@@ -60,17 +60,17 @@ module _ (page : Page) (latitude longitude : ℤ) where
       pub y-asks : natAbs (toZ w64 (ofZ w64 y)) ≤ 1000000000
       y-asks = as-small y g (subst (λ (p : ℤ × ℤ). natAbs (p .1) ≤ 1000000000) (inside .1) (v-small page h latitude longitude (inside .0)))
 
-      module _ {pu pv : List ℤ} (d : pu ≡ powersOf (toZ w64 (ofZ w64 x)) 10) (q : pv ≡ powersOf (toZ w64 (ofZ w64 y)) 10) where
-        pu-is : pu ≡ powersOf x 10
-        pu-is = d ∙ ap (λ (z : ℤ). powersOf z 10) (of f .reads)
+      module _ {pu pv : List ℤ} (d : pu ≡ powersOf scale (toZ w64 (ofZ w64 x)) 10) (q : pv ≡ powersOf scale (toZ w64 (ofZ w64 y)) 10) where
+        pu-is : pu ≡ powersOf scale x 10
+        pu-is = d ∙ ap (λ (z : ℤ). powersOf scale z 10) (of f .reads)
 
-        pv-is : pv ≡ powersOf y 10
-        pv-is = q ∙ ap (λ (z : ℤ). powersOf z 10) (of g .reads)
+        pv-is : pv ≡ powersOf scale y 10
+        pv-is = q ∙ ap (λ (z : ℤ). powersOf scale z 10) (of g .reads)
 
         pub work-asks : AllFit (page .equations) pu pv
         work-asks =
             subst₂ (AllFit (page .equations)) (sym pu-is) (sym pv-is)
-            (subst (λ (p : ℤ × ℤ). AllFit (page .equations) (powersOf (p .0) 10) (powersOf (p .1) 10)) (inside .1) (work page h latitude longitude (inside .0)))
+            (subst (λ (p : ℤ × ℤ). AllFit (page .equations) (powersOf scale (p .0) 10) (powersOf scale (p .1) 10)) (inside .1) (work page h latitude longitude (inside .0)))
 
         pub answered : {values : Family ℤ} → values ≡ evaluated (page .equations) pu pv → gives values ≡ pointOf page latitude longitude
         answered k = ap gives (k ∙ (λ i. evaluated (page .equations) (pu-is i) (pv-is i))) ∙ ap (finished (page .equations)) (sym e) ∙ by-place

@@ -39,10 +39,10 @@ fromCentre k centre x = roundDiv (k *ℤ (x -ℤ centre)) 3600000
 
 -- 2. the ten powers of u and of v
 abbrev pub powersU : Page → ℤ → List ℤ
-powersU page latitude = powersOf (fromCentre (pos (page .k)) (pos (page .latitude)) latitude) 10
+powersU page latitude = powersOf scale (fromCentre (pos (page .k)) (pos (page .latitude)) latitude) 10
 
 abbrev pub powersV : Page → ℤ → List ℤ
-powersV page longitude = powersOf (fromCentre (pos (page .k)) (pos (page .longitude)) longitude) 10
+powersV page longitude = powersOf scale (fromCentre (pos (page .k)) (pos (page .longitude)) longitude) 10
 
 -- 3. and 4. each equation: dLat and dLon in 0.00001", dH and N in mm
 abbrev pub evaluated : Family (List Term) → List ℤ → List ℤ → Family ℤ

@@ -14,16 +14,16 @@ use Rattle.equation.proofs.Sums.{sum-any-order}
 
 -- ---- 'The ten powers of each'
 -- they are ten, the zeroth 100,000,000 and the first u
-pub ten : (u : ℤ) → (length (powersOf u 10) ≡ 10) × ((getD (powersOf u 10) 0 (pos 0) ≡ pos 100000000) × (getD (powersOf u 10) 1 (pos 0) ≡ u))
+pub ten : (u : ℤ) → (length (powersOf scale u 10) ≡ 10) × ((getD (powersOf scale u 10) 0 (pos 0) ≡ pos 100000000) × (getD (powersOf scale u 10) 1 (pos 0) ≡ u))
 unfolding powersOf power
-ten u = (length-powers u 10, (refl, refl))
+ten u = (length-powers scale u 10, (refl, refl))
 
 -- 'each further power is the one before times u, divided by 100,000,000 and rounded'
-pub each-by-the-one-before : (u : ℤ) (n : ℕ) → 1 ≤ n → n + 1 < 10 → getD (powersOf u 10) (n + 1) (pos 0) ≡ roundDiv (getD (powersOf u 10) n (pos 0) *ℤ u) 100000000
+pub each-by-the-one-before : (u : ℤ) (n : ℕ) → 1 ≤ n → n + 1 < 10 → getD (powersOf scale u 10) (n + 1) (pos 0) ≡ roundDiv (getD (powersOf scale u 10) n (pos 0) *ℤ u) 100000000
 each-by-the-one-before u n h k =
-    powers-at u (pos 0) 10 (n + 1) k
-    ∙ power-next u n h
-    ∙ ap (λ (x : ℤ). roundDiv (x *ℤ u) scale) (sym (powers-at u (pos 0) 10 n (omega arith)))
+    powers-at scale u (pos 0) 10 (n + 1) k
+    ∙ power-next scale u n h
+    ∙ ap (λ (x : ℤ). roundDiv (x *ℤ u) scale) (sym (powers-at scale u (pos 0) 10 n (omega arith)))
 
 -- ---- 'The sum .. is exact': no order of the terms gives another answer
 pub any-order : (divisor : ℕ) {ts ss : List Term} → Perm ts ss → (pu pv : List ℤ) → equationOf divisor ts pu pv ≡ equationOf divisor ss pu pv
@@ -32,10 +32,10 @@ any-order divisor p pu pv = ∥∥₁-elim p (ℤ-set _ _) (λ d. ap (λ (x : �
 -- ---- 'Ways to get it wrong'
 pub record Worked : Type 0 where
   -- the fourth power of document 01's u, and the square of its square
-  pub fourth : power (pos 39269908) 4 ≡ pos 2378151
-  pub not-by-squaring : roundDiv (power (pos 39269908) 2 *ℤ power (pos 39269908) 2) 100000000 ≡ pos 2378152
+  pub fourth : power scale (pos 39269908) 4 ≡ pos 2378151
+  pub not-by-squaring : roundDiv (power scale (pos 39269908) 2 *ℤ power scale (pos 39269908) 2) 100000000 ≡ pos 2378152
   -- two terms of 0.4 unit come to 1 unit, though each by itself is rounded to none
-  pub summed-first : equationOf scale (term (pos 1) 1 0 ∷ term (pos 1) 1 0 ∷ []) (powersOf (pos 40000000) 10) (powersOf (pos 0) 10) ≡ pos 1
+  pub summed-first : equationOf scale (term (pos 1) 1 0 ∷ term (pos 1) 1 0 ∷ []) (powersOf scale (pos 40000000) 10) (powersOf scale (pos 0) 10) ≡ pos 1
 
 pub worked : Worked
 unfolding roundDiv power powersOf sum

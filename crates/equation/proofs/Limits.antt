@@ -20,7 +20,7 @@ use Rattle.equation.proofs.Sums.{sum-size}
 -- ---- the test, of the limits mu of u and mv of v
 -- a term's powers are among the ten, and 64 bits hold what is divided
 abbrev term-keeps : ℕ → ℕ → Term → Bool
-term-keeps mu mv (term c i j) = ltb i 10 && (ltb j 10 && ltb (limit mu i * limit mv j) 9223372036854775808)
+term-keeps mu mv (term c i j) = ltb i 10 && (ltb j 10 && ltb (limit scale mu i * limit scale mv j) 9223372036854775808)
 
 abbrev terms-keep : ℕ → ℕ → List Term → Bool
 terms-keep mu mv [] = true
@@ -29,7 +29,7 @@ terms-keep mu mv (t ∷ ts) = term-keeps mu mv t && terms-keep mu mv ts
 -- the largest that the terms' sizes come to
 abbrev reach : ℕ → ℕ → List Term → ℕ
 reach mu mv [] = 0
-reach mu mv (term c i j ∷ ts) = natAbs c * nearest (limit mu i * limit mv j) scale + reach mu mv ts
+reach mu mv (term c i j ∷ ts) = natAbs c * nearest (limit scale mu i * limit scale mv j) scale + reach mu mv ts
 
 -- 64 bits hold the sum, and 4 bytes what is left of it once divided
 abbrev pub keeps : ℕ → ℕ → ℕ → List Term → Bool
@@ -38,30 +38,30 @@ keeps divisor mu mv ts = terms-keep mu mv ts && (ltb (reach mu mv ts) 9223372036
 -- ---- what it shows
 module _ {mu mv : ℕ} (u v : ℤ) (hu : natAbs u ≤ mu) (hv : natAbs v ≤ mv) where
   abbrev pu : List ℤ
-  pu = powersOf u 10
+  pu = powersOf scale u 10
 
   abbrev pv : List ℤ
-  pv = powersOf v 10
+  pv = powersOf scale v 10
 
-  at-u : (i : ℕ) → i < 10 → natAbs (getD pu i (pos 0)) ≤ limit mu i
-  at-u i h = rw (powers-at u (pos 0) 10 i h) (power-size u hu i)
+  at-u : (i : ℕ) → i < 10 → natAbs (getD pu i (pos 0)) ≤ limit scale mu i
+  at-u i h = rw (powers-at scale u (pos 0) 10 i h) (power-size scale (lit< tt) u hu i)
 
-  at-v : (j : ℕ) → j < 10 → natAbs (getD pv j (pos 0)) ≤ limit mv j
-  at-v j h = rw (powers-at v (pos 0) 10 j h) (power-size v hv j)
+  at-v : (j : ℕ) → j < 10 → natAbs (getD pv j (pos 0)) ≤ limit scale mv j
+  at-v j h = rw (powers-at scale v (pos 0) 10 j h) (power-size scale (lit< tt) v hv j)
 
   term-fits : (t : Term) → T (term-keeps mu mv t) → Fitting t pu pv
   term-fits (term c i j) h =
-      let a = and-yes (ltb i 10) (ltb j 10 && ltb (limit mu i * limit mv j) 9223372036854775808) h in
-      let b = and-yes (ltb j 10) (ltb (limit mu i * limit mv j) 9223372036854775808) (a .1) in
+      let a = and-yes (ltb i 10) (ltb j 10 && ltb (limit scale mu i * limit scale mv j) 9223372036854775808) h in
+      let b = and-yes (ltb j 10) (ltb (limit scale mu i * limit scale mv j) 9223372036854775808) (a .1) in
       let i-low = ltb→lt i 10 (a .0) in
       let j-low = ltb→lt j 10 (b .0) in (
         i-low,
         j-low,
         lt-of-le-of-lt (abs-*-≤ (getD pu i (pos 0)) (getD pv j (pos 0)) (at-u i i-low) (at-v j j-low))
-            (ltb→lt (limit mu i * limit mv j) 9223372036854775808 (b .1)),
+            (ltb→lt (limit scale mu i * limit scale mv j) 9223372036854775808 (b .1)),
       )
 
-  size-reach : (c : ℤ) (i j : ℕ) → Fitting (term c i j) pu pv → natAbs c * natAbs (product i j pu pv) ≤ natAbs c * nearest (limit mu i * limit mv j) scale
+  size-reach : (c : ℤ) (i j : ℕ) → Fitting (term c i j) pu pv → natAbs c * natAbs (product scale i j pu pv) ≤ natAbs c * nearest (limit scale mu i * limit scale mv j) scale
   size-reach c i j f =
       mul-le-mul (le-refl (natAbs c)) (product-size (getD pu i (pos 0)) (getD pv j (pos 0)) (lit< tt) (at-u i (f .0)) (at-v j (f .1)))
 

@@ -8,19 +8,20 @@ use lib.ListN.{length, getD, take}
 use lib.Seq.{take-suc}
 use lib.IntN.{ℤ, pos, natAbs, _+ℤ_, _*ℤ_, +ℤ-assoc, +ℤ-comm, +ℤ-idl, +ℤ-idr}
 use Rattle.whole.proofs.Sizes.{abs-+, abs-*}
+use Rattle.whole.specs.Round.{scale}
 use Rattle.equation.specs.Equation.{Term, term, product, sum, terms}
 use Rattle.equation.specs.Room.{Fitting, Each, sizes}
 
 -- what a term adds to the sum
 abbrev pub value : Term → List ℤ → List ℤ → ℤ
-value (term c i j) pu pv = c *ℤ product i j pu pv
+value (term c i j) pu pv = c *ℤ product scale i j pu pv
 
 -- and to the sum of the sizes
 abbrev pub size : Term → List ℤ → List ℤ → ℕ
-size (term c i j) pu pv = natAbs c * natAbs (product i j pu pv)
+size (term c i j) pu pv = natAbs c * natAbs (product scale i j pu pv)
 
 pub size-is : (t : Term) (pu pv : List ℤ) → natAbs (value t pu pv) ≡ size t pu pv
-size-is (term c i j) pu pv = abs-* c (product i j pu pv)
+size-is (term c i j) pu pv = abs-* c (product scale i j pu pv)
 
 -- ---- a term of three columns
 abbrev pub none : Term
@@ -46,33 +47,33 @@ length-terms (c ∷ cs) (i ∷ us) (j ∷ vs) p q = ap suc (length-terms cs us v
 
 module _ (pu pv : List ℤ) where
   -- ---- one term more
-  sum-first : (t : Term) (ts : List Term) → sum (t ∷ ts) pu pv ≡ value t pu pv +ℤ sum ts pu pv
+  sum-first : (t : Term) (ts : List Term) → sum scale (t ∷ ts) pu pv ≡ value t pu pv +ℤ sum scale ts pu pv
   unfolding sum
   sum-first (term c i j) ts = refl
 
-  sum-last : (ts : List Term) (t : Term) → sum (ts ++ (t ∷ [])) pu pv ≡ sum ts pu pv +ℤ value t pu pv
+  sum-last : (ts : List Term) (t : Term) → sum scale (ts ++ (t ∷ [])) pu pv ≡ sum scale ts pu pv +ℤ value t pu pv
   unfolding sum
   sum-last [] t = sum-first t [] ∙ +ℤ-idr (value t pu pv) ∙ sym (+ℤ-idl (value t pu pv))
   sum-last (s ∷ ts) t =
       sum-first s (ts ++ (t ∷ []))
       ∙ ap (λ (z : ℤ). value s pu pv +ℤ z) (sum-last ts t)
-      ∙ sym (+ℤ-assoc (value s pu pv) (sum ts pu pv) (value t pu pv))
+      ∙ sym (+ℤ-assoc (value s pu pv) (sum scale ts pu pv) (value t pu pv))
       ∙ ap (λ (z : ℤ). z +ℤ value t pu pv) (sym (sum-first s ts))
 
-  pub sum-next : (ts : List Term) (k : ℕ) → k < length ts → sum (take (suc k) ts) pu pv ≡ sum (take k ts) pu pv +ℤ value (getD ts k none) pu pv
-  sum-next ts k h = ap (λ (l : List Term). sum l pu pv) (take-suc ts k none h) ∙ sum-last (take k ts) (getD ts k none)
+  pub sum-next : (ts : List Term) (k : ℕ) → k < length ts → sum scale (take (suc k) ts) pu pv ≡ sum scale (take k ts) pu pv +ℤ value (getD ts k none) pu pv
+  sum-next ts k h = ap (λ (l : List Term). sum scale l pu pv) (take-suc ts k none h) ∙ sum-last (take k ts) (getD ts k none)
 
   -- ---- how large
   sizes-first : (t : Term) (ts : List Term) → sizes (t ∷ ts) pu pv ≡ size t pu pv + sizes ts pu pv
   unfolding sizes
   sizes-first (term c i j) ts = refl
 
-  pub sum-size : (ts : List Term) → natAbs (sum ts pu pv) ≤ sizes ts pu pv
+  pub sum-size : (ts : List Term) → natAbs (sum scale ts pu pv) ≤ sizes ts pu pv
   unfolding sum sizes
   sum-size [] = zero-le
   sum-size (t ∷ ts) =
       rw (sum-first t ts, sizes-first t ts)
-      (le-trans (abs-+ (value t pu pv) (sum ts pu pv)) (add-le-add (le-of-eq (size-is t pu pv)) (sum-size ts)))
+      (le-trans (abs-+ (value t pu pv) (sum scale ts pu pv)) (add-le-add (le-of-eq (size-is t pu pv)) (sum-size ts)))
 
   pub sizes-take : (k : ℕ) (ts : List Term) → sizes (take k ts) pu pv ≤ sizes ts pu pv
   unfolding sizes
@@ -93,7 +94,7 @@ module _ (pu pv : List ℤ) where
   each-at (suc k) (t ∷ ts) e h = each-at k ts (e .1) (le-of-suc-le-suc h)
 
   -- ---- in any order
-  pub sum-any-order : {ts ss : List Term} → List·Permᴰ ts ss → sum ts pu pv ≡ sum ss pu pv
+  pub sum-any-order : {ts ss : List Term} → List·Permᴰ ts ss → sum scale ts pu pv ≡ sum scale ss pu pv
   sum-any-order List·Permᴰ·nil = refl
   sum-any-order (List·Permᴰ·cons {a} {b} {l₁} {l₂} e d) =
       sum-first a l₁
@@ -101,11 +102,11 @@ module _ (pu pv : List ℤ) where
       ∙ sym (sum-first b l₂)
   sum-any-order (List·Permᴰ·swap {a} {b} {a′} {b′} {l} e f) =
       two a b l
-      ∙ (λ i. value (e i) pu pv +ℤ (value (f i) pu pv +ℤ sum l pu pv))
-      ∙ swapped (value b′ pu pv) (value a′ pu pv) (sum l pu pv)
+      ∙ (λ i. value (e i) pu pv +ℤ (value (f i) pu pv +ℤ sum scale l pu pv))
+      ∙ swapped (value b′ pu pv) (value a′ pu pv) (sum scale l pu pv)
       ∙ sym (two a′ b′ l)
     where
-      two : (s t : Term) (ts : List Term) → sum (s ∷ t ∷ ts) pu pv ≡ value s pu pv +ℤ (value t pu pv +ℤ sum ts pu pv)
+      two : (s t : Term) (ts : List Term) → sum scale (s ∷ t ∷ ts) pu pv ≡ value s pu pv +ℤ (value t pu pv +ℤ sum scale ts pu pv)
       two s t ts = sum-first s (t ∷ ts) ∙ ap (λ (z : ℤ). value s pu pv +ℤ z) (sum-first t ts)
 
       swapped : (x y z : ℤ) → x +ℤ (y +ℤ z) ≡ y +ℤ (x +ℤ z)

@@ -17,18 +17,18 @@ plus c U^ i V^ j = term (pos c) i j
 abbrev pub minus_U^_V^_ : ℕ → ℕ → ℕ → Term
 minus c U^ i V^ j = term (negℤ (pos c)) i j
 
--- 3. a term's product is its power of u times its power of v, divided by 100,000,000 and rounded
-abbrev pub product : ℕ → ℕ → List ℤ → List ℤ → ℤ
-product i j pu pv = roundDiv (getD pu i (pos 0) *ℤ getD pv j (pos 0)) scale
+-- 3. a term's product is its power of u times its power of v, divided by the scale and rounded
+abbrev pub product : ℕ → ℕ → ℕ → List ℤ → List ℤ → ℤ
+product scale i j pu pv = roundDiv (getD pu i (pos 0) *ℤ getD pv j (pos 0)) scale
 
 -- 4. the sum of coefficient times product is exact
-unfoldable pub sum : List Term → List ℤ → List ℤ → ℤ
-sum [] pu pv = pos 0
-sum (term c i j ∷ ts) pu pv = c *ℤ product i j pu pv +ℤ sum ts pu pv
+unfoldable pub sum : ℕ → List Term → List ℤ → List ℤ → ℤ
+sum scale [] pu pv = pos 0
+sum scale (term c i j ∷ ts) pu pv = c *ℤ product scale i j pu pv +ℤ sum scale ts pu pv
 
--- it is divided and rounded once
+-- it is divided and rounded once; the scale is 100,000,000
 abbrev pub equationOf : ℕ → List Term → List ℤ → List ℤ → ℤ
-equationOf divisor ts pu pv = roundDiv (sum ts pu pv) divisor
+equationOf divisor ts pu pv = roundDiv (sum scale ts pu pv) divisor
 
 -- a table that stands as three columns
 abbrev pub terms : List ℤ → List ℕ → List ℕ → List Term

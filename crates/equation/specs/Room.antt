@@ -4,6 +4,7 @@ use mathlib.Core.List.{List, [], _∷_}
 use Prim.Native.Nat.{ℕ, _+_, _*_, _<_, _^_}
 use lib.IntN.{ℤ, pos, natAbs, _*ℤ_}
 use lib.ListN.{getD}
+use Rattle.whole.specs.Round.{scale}
 use Rattle.equation.specs.Equation.{Term, term, product}
 
 -- the powers are among the ten, and 64 bits hold what is divided
@@ -17,7 +18,7 @@ Each (t ∷ ts) pu pv = Fitting t pu pv × Each ts pu pv
 -- the sizes of the terms, summed
 unfoldable pub sizes : List Term → List ℤ → List ℤ → ℕ
 sizes [] pu pv = 0
-sizes (term c i j ∷ ts) pu pv = natAbs c * natAbs (product i j pu pv) + sizes ts pu pv
+sizes (term c i j ∷ ts) pu pv = natAbs c * natAbs (product scale i j pu pv) + sizes ts pu pv
 
 pub record Room (ts : List Term) (pu pv : List ℤ) : Type 0 where
   pub each : Each ts pu pv

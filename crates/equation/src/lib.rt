@@ -11,7 +11,7 @@ ghost use Rattle.equation.specs.Room.{Room};
 // The powers of u from the zeroth to the ninth, in hundred-millionths, each the one before times u, rounded.
 pub fn powers(u: i64) -> [i64; 10]
     requires { ⌜ natAbs u ≤ 1000000000 ⌝ }
-    ensures { λ r. ⌜ r ≡ powersOf u 10 ⌝ }
+    ensures { λ r. ⌜ r ≡ powersOf scale u 10 ⌝ }
 {
     let mut out = [whole::SCALE; 10];
     out[1] = u;

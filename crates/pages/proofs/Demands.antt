@@ -4,7 +4,7 @@ use mathlib.Core.Path.{_≡_, refl}
 use mathlib.Core.List.{[], _∷_}
 use Prim.Native.Nat.{_+_, _-_}
 use lib.IntN.{pos, negℤ}
-use Rattle.whole.specs.Round.{roundDiv}
+use Rattle.whole.specs.Round.{roundDiv, scale}
 use Rattle.kinds.specs.Answer.{gives, refused}
 use Rattle.position.specs.Text.{latitude, read}
 use Rattle.position.proofs.Demands as position
@@ -27,7 +27,7 @@ pub record Twelve : Type 0 where
   pub one-ms : fromCentre (pos (cyprus .k)) (pos (at 35 0)) (pos (at 35 0 + 1)) ≡ pos 22
   pub minus-one-ms : fromCentre (pos (cyprus .k)) (pos (at 35 0)) (pos (at 35 0 - 1)) ≡ negℤ (pos 22)
   -- and the square of the first
-  pub square : power (pos 39269908) 2 ≡ pos 15421257
+  pub square : power scale (pos 39269908) 2 ≡ pos 15421257
   -- 900000.000N
   pub pole : read latitude (57 ∷ 48 ∷ 48 ∷ 48 ∷ 48 ∷ 48 ∷ 46 ∷ 48 ∷ 48 ∷ 48 ∷ 78 ∷ []) ≡ gives (pos 324000000)
   -- 000000.000S

@@ -19,7 +19,7 @@ use Rattle.equation.proofs.equation.Statement.{statement}
 use Rattle.equation.proofs.equation.Tie as tie
 
 abbrev Inv-loop : tie.InvT-loop
-Inv-loop coefficients us vs pu pv sum₀ k₀ total k = (k ≤ length coefficients) × Holds w64 total (sum (take k (terms coefficients us vs)) pu pv)
+Inv-loop coefficients us vs pu pv sum₀ k₀ total k = (k ≤ length coefficients) × Holds w64 total (sum scale (take k (terms coefficients us vs)) pu pv)
 
 abbrev μ-loop : tie.MeasureT-loop
 μ-loop coefficients us vs pu pv sum₀ k₀ total k = length coefficients - k
@@ -46,8 +46,8 @@ module _ (s : tie.Start Inv-loop μ-loop) where
   room = s .pre .1
 
   -- 64 bits hold each sum on the way
-  sum-fits : (k : ℕ) → SFits w64 (sum (take k ts) pu pv)
-  sum-fits k = small (sum (take k ts) pu pv) (lt-of-le-of-lt (le-trans (sum-size pu pv (take k ts)) (sizes-take pu pv k ts)) (room .within))
+  sum-fits : (k : ℕ) → SFits w64 (sum scale (take k ts) pu pv)
+  sum-fits k = small (sum scale (take k ts) pu pv) (lt-of-le-of-lt (le-trans (sum-size pu pv (take k ts)) (sizes-take pu pv k ts)) (room .within))
 
 -- one turn: the term at k
 module _ (c : tie.In-loop Inv-loop μ-loop) where
@@ -84,19 +84,19 @@ module _ (c : tie.In-loop Inv-loop μ-loop) where
   product-fits : SFits w64 (a *ℤ b)
   product-fits = small (a *ℤ b) (fits .2)
 
-  value-fits : SFits w64 (coefficient *ℤ product i j (pu s) (pv s))
+  value-fits : SFits w64 (coefficient *ℤ product scale i j (pu s) (pv s))
   value-fits =
-      small (coefficient *ℤ product i j (pu s) (pv s))
+      small (coefficient *ℤ product scale i j (pu s) (pv s))
       (lt-of-le-of-lt
       (subst (λ (t : Term). natAbs (value t (pu s) (pv s)) ≤ sizes (ts s) (pu s) (pv s)) term-is
       (rw (size-is (getD (ts s) k none) (pu s) (pv s)) (sizes-at (pu s) (pv s) k (ts s) inside)))
       (room s .within))
 
-  next : sum (take k (ts s)) (pu s) (pv s) +ℤ coefficient *ℤ product i j (pu s) (pv s) ≡ sum (take (k + 1) (ts s)) (pu s) (pv s)
+  next : sum scale (take k (ts s)) (pu s) (pv s) +ℤ coefficient *ℤ product scale i j (pu s) (pv s) ≡ sum scale (take (k + 1) (ts s)) (pu s) (pv s)
   next =
-      ap (λ (t : Term). sum (take k (ts s)) (pu s) (pv s) +ℤ value t (pu s) (pv s)) (sym term-is)
+      ap (λ (t : Term). sum scale (take k (ts s)) (pu s) (pv s) +ℤ value t (pu s) (pv s)) (sym term-is)
       ∙ sym (sum-next (pu s) (pv s) (ts s) k inside)
-      ∙ ap (λ (n : ℕ). sum (take n (ts s)) (pu s) (pv s)) (sym (add-one k))
+      ∙ ap (λ (n : ℕ). sum scale (take n (ts s)) (pu s) (pv s)) (sym (add-one k))
 
 shared-slice-read-i : tie.Need-shared-slice-read-i Inv-loop μ-loop
 shared-slice-read-i c = omega (arith, c .before .loop-test .taken, c .before .before .before .before .before .pre .0 .0)
@@ -156,15 +156,15 @@ module _ (c : tie.After-rounded Inv-loop μ-loop) where
   coefficient-is : Holds w64 (ofZ w64 (coefficient now-in)) (coefficient now-in)
   coefficient-is = of (record { sfits = c .before .before .before .sum .given })
 
-  product-is : Holds w64 (ofZ w64 (c .rounded .result)) (product (i now-in) (j now-in) (pu (s now-in)) (pv (s now-in)))
+  product-is : Holds w64 (ofZ w64 (c .rounded .result)) (product scale (i now-in) (j now-in) (pu (s now-in)) (pv (s now-in)))
   product-is =
       to (c .rounded .ensures ∙ ap (λ (x : ℤ). roundDiv x scale) (ab-is (c .before) .reads))
       (of (record { sfits = c .rounded .ok }))
 
-  sum-is : Holds w64 (now-in .before .loop .sum) (sum (take (k now-in) (ts (s now-in))) (pu (s now-in)) (pv (s now-in)))
+  sum-is : Holds w64 (now-in .before .loop .sum) (sum scale (take (k now-in) (ts (s now-in))) (pu (s now-in)) (pv (s now-in)))
   sum-is = now-in .before .loop .inv .1
 
-  next-fits : SFits w64 (sum (take (k now-in) (ts (s now-in))) (pu (s now-in)) (pv (s now-in)) +ℤ coefficient now-in *ℤ product (i now-in) (j now-in) (pu (s now-in)) (pv (s now-in)))
+  next-fits : SFits w64 (sum scale (take (k now-in) (ts (s now-in))) (pu (s now-in)) (pv (s now-in)) +ℤ coefficient now-in *ℤ product scale (i now-in) (j now-in) (pu (s now-in)) (pv (s now-in)))
   next-fits = subst (SFits w64) (sym (next now-in)) (sum-fits (s now-in) (k now-in + 1))
 
 mul-sum-2 : tie.Need-mul-sum-2 Inv-loop μ-loop
@@ -195,7 +195,7 @@ returns c =
     of (record { sfits = c .rounded2 .ok }) .reads
     ∙ c .rounded2 .ensures
     ∙ ap (λ (x : ℤ). roundDiv x scale) (end .inv .1 .reads)
-    ∙ ap (λ (l : List Term). roundDiv (sum l (pu s) (pv s)) scale)
+    ∙ ap (λ (l : List Term). roundDiv (sum scale l (pu s) (pv s)) scale)
     (take-all (end .k) (ts s) (omega (arith, c .before .loop-test .left, long s)))
 
 pub equation-spec : {M : Type 1} → statement M

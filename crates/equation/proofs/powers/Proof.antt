@@ -5,7 +5,7 @@ use Prim.Native.Nat.{ℕ, _+_, _-_, _<_, _≤_}
 use native.Mathlib.Nat.{lt-of-le-of-lt}
 use native.Mathlib.Omega.{arith}
 use native.Mathlib.Numerals.{add-one}
-use lib.Dec.{ltb, ltb→lt}
+use lib.Dec.{ltb, ltb→lt, lit<}
 use lib.ListN.{length, take, length-set}
 use lib.Seq.{take-suc-set, take-all}
 use lib.IntN.{ℤ, _*ℤ_}
@@ -24,9 +24,9 @@ use Rattle.equation.proofs.powers.Tie as tie
 record Inv (z : ℤ) (out : List ℤ) (held k : ℕ) : Type 0 where
   low : 2 ≤ k
   high : k ≤ 10
-  last : Holds w64 held (power z (k - 1))
+  last : Holds w64 held (power scale z (k - 1))
   long : length out ≡ 10
-  done : take k out ≡ powersOf z k
+  done : take k out ≡ powersOf scale z k
 
 abbrev Inv-loop : tie.InvT-loop
 Inv-loop u out₀ power₀ k₀ out held k = Inv (toZ w64 u) out held k
@@ -64,18 +64,18 @@ module _ (c : tie.In-loop Inv-loop μ-loop) where
   inv : Inv (z s) (c .before .loop .out) (c .before .loop .power) k
   inv = c .before .loop .inv
 
-  next : roundDiv (toZ w64 (c .before .loop .power) *ℤ z s) scale ≡ power (z s) k
+  next : roundDiv (toZ w64 (c .before .loop .power) *ℤ z s) scale ≡ power scale (z s) k
   next =
       ap (λ (x : ℤ). roundDiv (x *ℤ z s) scale) (inv .last .reads)
-      ∙ sym (power-next (z s) (k - 1) (omega (arith, inv .low)))
-      ∙ ap (power (z s)) (omega (arith, inv .low))
+      ∙ sym (power-next scale (z s) (k - 1) (omega (arith, inv .low)))
+      ∙ ap (power scale (z s)) (omega (arith, inv .low))
 
-  next-fits : SFits w64 (power (z s) k)
+  next-fits : SFits w64 (power scale (z s) k)
   next-fits =
-      small (power (z s) k)
-      (lt-of-le-of-lt (power-size (z s) (rw (toZ-ofZ (s .fits .u)) (s .pre)) k)
-      (ltb→lt (limit 1000000000 k) 9223372036854775808
-      (below 10 (λ n. ltb (limit 1000000000 n) 9223372036854775808) tt k (c .loop-test .taken))))
+      small (power scale (z s) k)
+      (lt-of-le-of-lt (power-size scale (lit< tt) (z s) (rw (toZ-ofZ (s .fits .u)) (s .pre)) k)
+      (ltb→lt (limit scale 1000000000 k) 9223372036854775808
+      (below 10 (λ n. ltb (limit scale 1000000000 n) 9223372036854775808) tt k (c .loop-test .taken))))
 
 scaled-requires : tie.Need-scaled-requires Inv-loop μ-loop
 scaled-requires c κs = rw (next c) (next-fits c)
@@ -96,12 +96,12 @@ loop-again : tie.Need-loop-again Inv-loop μ-loop
 unfolding powersOf
 loop-again c =
     let i = inv (c .before) in
-    let held : Holds w64 (ofZ w64 (c .scaled .result)) (power (z (s (c .before))) (k (c .before))) = to (c .scaled .ensures ∙ next (c .before)) (of (record { sfits = c .scaled .ok })) in
+    let held : Holds w64 (ofZ w64 (c .scaled .result)) (power scale (z (s (c .before))) (k (c .before))) = to (c .scaled .ensures ∙ next (c .before)) (of (record { sfits = c .scaled .ok })) in
     let inside : k (c .before) < length (c .before .before .loop .out) = omega (arith, i .long) in
     record {
       low = omega arith;
       high = omega arith;
-      last = to (ap (power (z (s (c .before)))) (omega arith)) held;
+      last = to (ap (power scale (z (s (c .before)))) (omega arith)) held;
       long = simp length-set (i .long);
       done = rw (add-one, take-suc-set, inside) (λ j. i .done j ++ (held .reads j ∷ []));
     }
@@ -112,7 +112,7 @@ returns c =
     let ten : c .before .loop .k ≡ 10 = omega (arith, i .high) in
     sym (take-all (c .before .loop .k) (c .before .loop .out) (omega (arith, i .long)))
     ∙ i .done
-    ∙ (λ j. powersOf (toZ-ofZ (c .before .before .fits .u) j) (ten j))
+    ∙ (λ j. powersOf scale (toZ-ofZ (c .before .before .fits .u) j) (ten j))
 
 pub powers-spec : {M : Type 1} → statement M
 powers-spec =
