@@ -5,5 +5,11 @@ pub mod Steps
 pub mod Sums
 -- what a computed test of a table shows of its sum at every u and v within limits
 pub mod Limits
+-- fractions: the same, within, proper; the exact value over one common power
+pub mod Fractions
+-- how near a working number is to the fraction that it stands for
+pub mod Nearness
+-- the one theorem about the error, and the test that it asks for
+pub mod Errors
 -- what document 01 asks of an equation
 pub mod Demands

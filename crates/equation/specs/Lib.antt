@@ -1,3 +1,4 @@
 pub mod Powers
 pub mod Equation
+pub mod Exact
 pub mod Room

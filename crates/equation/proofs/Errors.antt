@@ -1,0 +1,110 @@
+-- How far the answer of an equation can be from its exact value: one computed test, and the one theorem about it, over any
+-- table, any limits of u and v, any scale, any last divisor and any bound. Assumes nothing.
+--
+-- Errors on the way are counted in kths of one at the scale and rounded up, so the larger k, the less is lost in counting.
+use mathlib.Core.Path.{_≡_, sym, ap, _∙_, subst}
+use mathlib.Core.Bool.{Bool, true, _&&_}
+use mathlib.Core.List.{List, [], _∷_}
+use Prim.Native.Nat.{ℕ, zero, suc, _+_, _-_, _*_, _/_, _≤_, _<_}
+use native.Mathlib.Nat.{le-of-lt, lt-mul-div-succ, mul-pos}
+use lib.Dec.{T, leb, leb→le, ltb, ltb→lt, lit<}
+use lib.ListN.{getD}
+use lib.IntN.{ℤ, pos, natAbs, _+ℤ_, _*ℤ_, *ℤ-comm}
+use mir.Facts.{and-yes}
+use Rattle.whole.specs.Round.{roundDiv}
+use Rattle.whole.proofs.Rounding.{round-exact}
+use Rattle.equation.specs.Powers.{power, powersOf}
+use Rattle.equation.specs.Equation.{Term, term, product, sum}
+use Rattle.equation.specs.Exact.{Fraction, _over_, whole, _times_, _to-the_, exactOf, Within}
+use Rattle.equation.proofs.Steps.{limit, power-size, powers-at}
+use Rattle.equation.proofs.Fractions.{exact-proper}
+use Rattle.equation.proofs.Nearness.{Near, near-zero, near-one, near-one-times, near-times-one, near-quotient, near-product, near-sum, near-answer}
+
+-- ---- the test
+module _ (s k : ℕ) where
+  -- of a rounded product, by its factors' errors e and d and sizes m and n
+  abbrev product-error : ℕ → ℕ → ℕ → ℕ → ℕ
+  product-error e d m n = (k * k * s + 2 * (k * (e * n + m * d) + e * d)) / (2 * k * s) + 1
+
+  -- of the nth power of a rounded number whose size is at most m
+  abbrev power-error : ℕ → ℕ → ℕ
+  power-error m zero = 0
+  power-error m (suc zero) = k - k / 2
+  power-error m (suc (suc n)) = product-error (power-error m (suc n)) (k - k / 2) (limit s m (suc n)) m
+
+  -- of a term's product; one with a zeroth power is not rounded again
+  abbrev term-error : ℕ → ℕ → ℕ → ℕ → ℕ
+  term-error mu mv zero j = power-error mv j
+  term-error mu mv (suc i) zero = power-error mu (suc i)
+  term-error mu mv (suc i) (suc j) = product-error (power-error mu (suc i)) (power-error mv (suc j)) (limit s mu (suc i)) (limit s mv (suc j))
+
+  -- of the sum
+  abbrev sum-error : ℕ → ℕ → List Term → ℕ
+  sum-error mu mv [] = 0
+  sum-error mu mv (term c i j ∷ ts) = natAbs c * term-error mu mv i j + sum-error mu mv ts
+
+  -- each power is among the ten
+  abbrev in-ten : List Term → Bool
+  in-ten [] = true
+  in-ten (term c i j ∷ ts) = (ltb i 10 && ltb j 10) && in-ten ts
+
+  -- half a unit for the last rounding and the error of the sum are at most h nths of a unit
+  abbrev pub bounded : ℕ → ℕ → ℕ → ℕ → ℕ → List Term → Bool
+  bounded divisor mu mv h n ts = in-ten ts && leb (n * (k * divisor + 2 * sum-error mu mv ts)) (2 * divisor * h * k)
+
+-- ---- what it shows
+above : (n : ℕ) {m : ℕ} → 0 < m → n ≤ m * (n / m + 1)
+above n h = le-of-lt (lt-mul-div-succ n h)
+
+module _ {s k : ℕ} (hs : 0 < s) (hk : 0 < k) where
+  -- a product of numbers of known sizes
+  multiplied : {x y : ℤ} {f g : Fraction} {e d : ℕ} (m n : ℕ) → natAbs x ≤ m → natAbs y ≤ n → Near s k x f e → Near s k y g d → Near s k (roundDiv (x *ℤ y) s) (f times g) (product-error s k e d m n)
+  multiplied {e = e} {d = d} m n hm hn hx hy =
+      near-product hs hk m n (product-error s k e d m n) hm hn (above (k * k * s + 2 * (k * (e * n + m * d) + e * d)) (mul-pos (mul-pos (lit< tt) hk) hs)) hx hy
+
+  -- a power
+  raised : {u : ℤ} {f : Fraction} {m : ℕ} → natAbs u ≤ m → Near s k u f (k - k / 2) → (n : ℕ) → Near s k (power s u n) (f to-the n) (power-error s k m n)
+  unfolding power _to-the_
+  raised h near zero = near-one
+  raised h near (suc zero) = near-one-times near
+  raised {u} {f} {m} h near (suc (suc n)) = multiplied (limit s m (suc n)) m (power-size s hs u h (suc n)) h (raised h near (suc n)) near
+
+  module _ {mu mv : ℕ} {u v : ℤ} {f g : Fraction} (hu : natAbs u ≤ mu) (hv : natAbs v ≤ mv) (near-u : Near s k u f (k - k / 2)) (near-v : Near s k v g (k - k / 2)) where
+    -- a term's product
+    term-near : (i j : ℕ) → Near s k (roundDiv (power s u i *ℤ power s v j) s) (f to-the i times g to-the j) (term-error s k mu mv i j)
+    unfolding power _to-the_
+    term-near zero j =
+        subst (λ (x : ℤ). Near s k x (f to-the 0 times g to-the j) (power-error s k mv j)) (sym (ap (λ (x : ℤ). roundDiv x s) (*ℤ-comm (pos s) (power s v j)) ∙ round-exact (power s v j) hs))
+        (near-one-times (raised hv near-v j))
+    term-near (suc i) zero =
+        subst (λ (x : ℤ). Near s k x (f to-the (suc i) times g to-the 0) (power-error s k mu (suc i))) (sym (round-exact (power s u (suc i)) hs))
+        (near-times-one (raised hu near-u (suc i)))
+    term-near (suc i) (suc j) =
+        multiplied (limit s mu (suc i)) (limit s mv (suc j)) (power-size s hs u hu (suc i)) (power-size s hs v hv (suc j)) (raised hu near-u (suc i)) (raised hv near-v (suc j))
+
+    -- the same of the powers as they stand in their lists
+    product-near : (i j : ℕ) → i < 10 → j < 10 → Near s k (product s i j (powersOf s u 10) (powersOf s v 10)) (f to-the i times g to-the j) (term-error s k mu mv i j)
+    product-near i j hi hj =
+        subst (λ (x : ℤ). Near s k (roundDiv x s) (f to-the i times g to-the j) (term-error s k mu mv i j))
+        (λ n. sym (powers-at s u (pos 0) 10 i hi) n *ℤ sym (powers-at s v (pos 0) 10 j hj) n) (term-near i j)
+
+    -- the sum
+    sum-near : (ts : List Term) → T (in-ten s k ts) → Near s k (sum s ts (powersOf s u 10) (powersOf s v 10)) (exactOf ts f g) (sum-error s k mu mv ts)
+    unfolding sum exactOf
+    sum-near [] h = near-zero
+    sum-near (term c i j ∷ ts) h =
+        let a = and-yes (ltb i 10 && ltb j 10) (in-ten s k ts) h in
+        let b = and-yes (ltb i 10) (ltb j 10) (a .0) in
+        near-sum c (product-near i j (ltb→lt i 10 (b .0)) (ltb→lt j 10 (b .1))) (sum-near ts (a .1))
+
+  -- the answer, of u = a / d and v = b / d rounded: it is within h nths of a unit of the exact value, which the scale and the
+  -- last divisor carry into the answer's unit
+  pub answer-near : {d divisor mu mv : ℕ} (h n : ℕ) (ts : List Term) (a b : ℤ) → 0 < d → 0 < divisor
+      → natAbs (roundDiv a d) ≤ mu → natAbs (roundDiv b d) ≤ mv → T (bounded s k divisor mu mv h n ts)
+      → Within h n (exactOf ts (a over (d * s)) (b over (d * s)) times (pos s over divisor)) (roundDiv (sum s ts (powersOf s (roundDiv a d) 10) (powersOf s (roundDiv b d) 10)) divisor)
+  answer-near {d} {divisor} {mu} {mv} h n ts a b hd hv hu hw test =
+      let t = and-yes (in-ten s k ts) (leb (n * (k * divisor + 2 * sum-error s k mu mv ts)) (2 * divisor * h * k)) test in
+      let below = mul-pos hd hs in
+      near-answer hk h n hv (exact-proper (a over (d * s)) (b over (d * s)) below below ts)
+      (leb→le (n * (k * divisor + 2 * sum-error s k mu mv ts)) (2 * divisor * h * k) (t .1))
+      (sum-near hu hw (near-quotient a hd) (near-quotient b hd) ts (t .0))

@@ -1,0 +1,103 @@
+-- Fractions: when two are the same, which is within what, and the exact value over one common power. Assumes nothing.
+use mathlib.Core.Path.{_≡_, refl, sym, ap, _∙_}
+use mathlib.Core.Bool.{Bool, true, _&&_}
+use mathlib.Core.List.{List, [], _∷_}
+use Prim.Native.Nat.{ℕ, zero, suc, _+_, _-_, _*_, _^_, _≤_, _<_}
+use native.Mathlib.Nat.{mul-pos, mul-le-mul-left, mul-le-mul-right, le-of-mul-le-mul-left, le-of-mul-le-mul-right, pow-zero, pow-suc}
+use native.Mathlib.Omega.{arith}
+use lib.Dec.{T, leb, leb→le, lit<}
+use lib.Pow.{pow-add}
+use lib.IntN.{ℤ, pos, natAbs, _+ℤ_, _-ℤ_, _*ℤ_, pow, one, zero-*ℤ}
+use mir.Facts.{and-yes}
+use Rattle.whole.proofs.Ring.{by-diff, pos-diff, diff-cong, ring₀}
+use Rattle.whole.proofs.Sizes.{abs-*}
+use Rattle.equation.specs.Equation.{Term, term}
+use Rattle.equation.specs.Exact.{Fraction, _over_, whole, _plus_, _times_, _to-the_, exactOf, Within}
+
+-- ---- two fractions that are the same
+abbrev pub Same : Fraction → Fraction → Type 0
+Same f g = f .top *ℤ pos (g .bottom) ≡ g .top *ℤ pos (f .bottom)
+
+-- what is within h / k of the one is so of the other
+pub within-same : {h k : ℕ} {x : ℤ} (f g : Fraction) → Same f g → 0 < f .bottom → Within h k g x → Within h k f x
+within-same {h} {k} {x} f g e p w = record {
+  proper = p;
+  near = le-of-mul-le-mul-right (omega (arith, mul-le-mul-right (f .bottom) (w .near), ap (λ (n : ℕ). k * n) apart)) (w .proper);
+}
+  where
+    crossed : (A B : ℕ) (X Y : ℤ) → X *ℤ pos B ≡ Y *ℤ pos A → (x *ℤ pos A -ℤ X) *ℤ pos B ≡ (x *ℤ pos B -ℤ Y) *ℤ pos A
+    crossed A B X Y h = by-hand ∙ ap (λ (z : ℤ). x *ℤ pos A *ℤ pos B -ℤ z) h ∙ sym turned
+      where
+        by-hand : (x *ℤ pos A -ℤ X) *ℤ pos B ≡ x *ℤ pos A *ℤ pos B -ℤ X *ℤ pos B
+        by-hand = rw (by-diff x, by-diff X, pos-diff A, pos-diff B) (simp ring₀ (diff-cong _ _ _ _ (omega arith)))
+
+        turned : (x *ℤ pos B -ℤ Y) *ℤ pos A ≡ x *ℤ pos A *ℤ pos B -ℤ Y *ℤ pos A
+        turned = rw (by-diff x, by-diff Y, pos-diff A, pos-diff B) (simp ring₀ (diff-cong _ _ _ _ (omega arith)))
+
+    apart : natAbs (x *ℤ pos (f .bottom) -ℤ f .top) * g .bottom ≡ natAbs (x *ℤ pos (g .bottom) -ℤ g .top) * f .bottom
+    apart =
+        sym (abs-* (x *ℤ pos (f .bottom) -ℤ f .top) (pos (g .bottom)))
+        ∙ ap natAbs (crossed (f .bottom) (g .bottom) (f .top) (g .top) e)
+        ∙ abs-* (x *ℤ pos (g .bottom) -ℤ g .top) (pos (f .bottom))
+
+-- a wider bound
+pub within-wider : {h k : ℕ} {f : Fraction} {x : ℤ} (h′ k′ : ℕ) → 0 < k → k′ * h ≤ h′ * k → Within h k f x → Within h′ k′ f x
+within-wider {h} {k} {f} {x} h′ k′ p t w = record {
+  proper = w .proper;
+  near = le-of-mul-le-mul-left {k = k} (omega (arith, mul-le-mul-left k′ (w .near), mul-le-mul-right (f .bottom) t)) p;
+}
+
+-- ---- no bottom is zero
+pub power-proper : (f : Fraction) → 0 < f .bottom → (n : ℕ) → 0 < (f to-the n) .bottom
+unfolding _to-the_
+power-proper f h zero = lit< tt
+power-proper f h (suc n) = mul-pos (power-proper f h n) h
+
+pub exact-proper : (f g : Fraction) → 0 < f .bottom → 0 < g .bottom → (ts : List Term) → 0 < exactOf ts f g .bottom
+unfolding exactOf
+exact-proper f g h k [] = lit< tt
+exact-proper f g h k (term c i j ∷ ts) =
+    mul-pos (mul-pos (lit< tt) (mul-pos (power-proper f h i) (power-proper g k j))) (exact-proper f g h k ts)
+
+-- ---- of U and V over one bottom D, the value is a whole number over one power of D
+-- no term has more than n factors
+abbrev pub reaches : ℕ → List Term → Bool
+reaches n [] = true
+reaches n (term c i j ∷ ts) = leb (i + j) n && reaches n ts
+
+abbrev pub common : ℕ → ℕ → ℤ → ℤ → List Term → ℤ
+common D n a b [] = pos 0
+common D n a b (term c i j ∷ ts) = c *ℤ (pow a i *ℤ pow b j) *ℤ pos (D ^ (n - (i + j))) +ℤ common D n a b ts
+
+power-is : (a : ℤ) (D n : ℕ) → (a over D) to-the n ≡ pow a n over (D ^ n)
+unfolding _to-the_ pow one
+power-is a D zero = λ i. pos 1 over sym (pow-zero D) i
+power-is a D (suc n) = λ i. (power-is a D n i .top *ℤ a) over ((ap (λ (m : ℕ). m * D) (ap (λ (f : Fraction). f .bottom) (power-is a D n)) ∙ sym (pow-suc D n)) i)
+
+-- the powers of D that a term has, and those that it lacks
+filled : (D n i j : ℕ) → i + j ≤ n → D ^ i * D ^ j * D ^ (n - (i + j)) ≡ D ^ n
+filled D n i j h =
+    ap (λ (x : ℕ). x * D ^ (n - (i + j))) (sym (pow-add D i j))
+    ∙ sym (pow-add D (i + j) (n - (i + j)))
+    ∙ ap (λ (x : ℕ). D ^ x) (omega arith)
+
+-- c t / d added to x / m, where x / m is y / e and d r is e
+summed : (c t x y : ℤ) (d m r e : ℕ) → d * r ≡ e → x *ℤ pos e ≡ y *ℤ pos m
+    → (c *ℤ t *ℤ pos m +ℤ x *ℤ pos (1 * d)) *ℤ pos e ≡ (c *ℤ t *ℤ pos r +ℤ y) *ℤ pos (1 * d * m)
+summed c t x y d m r e h k = left ∙ ap (λ (z : ℤ). c *ℤ t *ℤ pos m *ℤ pos (d * r) +ℤ z *ℤ pos d) k ∙ right
+  where
+    left : (c *ℤ t *ℤ pos m +ℤ x *ℤ pos (1 * d)) *ℤ pos e ≡ c *ℤ t *ℤ pos m *ℤ pos (d * r) +ℤ x *ℤ pos e *ℤ pos d
+    left = rw (h) (rw (by-diff c, by-diff t, by-diff x, pos-diff m, pos-diff (1 * d), pos-diff d, pos-diff e) (simp ring₀ (diff-cong _ _ _ _ (omega arith))))
+
+    right : c *ℤ t *ℤ pos m *ℤ pos (d * r) +ℤ y *ℤ pos m *ℤ pos d ≡ (c *ℤ t *ℤ pos r +ℤ y) *ℤ pos (1 * d * m)
+    right = rw (by-diff c, by-diff t, by-diff y, pos-diff m, pos-diff r, pos-diff (1 * d * m), pos-diff d, pos-diff (d * r)) (simp ring₀ (diff-cong _ _ _ _ (omega arith)))
+
+pub over-common : (D n : ℕ) (a b : ℤ) (ts : List Term) → T (reaches n ts) → Same (exactOf ts (a over D) (b over D)) (common D n a b ts over (D ^ n))
+unfolding exactOf
+over-common D n a b [] h = zero-*ℤ (pos (D ^ n)) ∙ sym (zero-*ℤ (pos 1))
+over-common D n a b (term c i j ∷ ts) h =
+    let p = and-yes (leb (i + j) n) (reaches n ts) h in
+    rw (power-is a D i, power-is b D j)
+    (summed c (pow a i *ℤ pow b j) (exactOf ts (a over D) (b over D) .top) (common D n a b ts)
+    (D ^ i * D ^ j) (exactOf ts (a over D) (b over D) .bottom) (D ^ (n - (i + j))) (D ^ n)
+    (filled D n i j (leb→le (i + j) n (p .0))) (over-common D n a b ts (p .1)))
