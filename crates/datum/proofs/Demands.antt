@@ -4,16 +4,18 @@ use mathlib.Core.Bool.{Bool, true, false, not, false≢true}
 use mathlib.Core.List.{List, [], _∷_, map}
 use mathlib.Core.Logic.{_↔_, _⊎_}
 use Prim.Native.Nat.{ℕ}
-use lib.Dec.{T}
-use lib.IntN.{ℤ, pos}
+use lib.Dec.{T, lit<, lit≤}
+use lib.IntN.{ℤ, pos, negℤ}
 use Rattle.whole.specs.Round.{scale}
 use Rattle.kinds.specs.Answer.{Answer, gives, refused, provided}
 use Rattle.kinds.specs.Kinds.{within, isFourBytes}
 use Rattle.kinds.proofs.Answers.{number-back, rebuilt, determined}
 use Rattle.equation.specs.Equation.{Term}
+use Rattle.equation.specs.Exact.{whole, _times_, _to-the_, exactOf, Within}
 use Rattle.equation.proofs.Demands as equation
 use Rattle.datum.specs.Page.{Page, Family, shift, geoid, isShift, isGeoid, isEither, each}
 use Rattle.datum.specs.Point.{isCode, pages, pageOf, inArea, inRange, evaluated, worked, pointOf, asked, answerOf, shiftOf, geoidOf}
+use Rattle.datum.specs.Exact.{exact, OfShift, OfGeoid, AllWithin, demanded, boundsOf}
 use Rattle.datum.specs.Tables.{counted, inAll, stands, Reordered, ends, every}
 use Rattle.datum.specs.Cases.{shiftAnswer, geoidAnswer, pointAnswer}
 use Rattle.kinds.specs.declared.Refusal.the-variants as Refusal
@@ -23,9 +25,10 @@ use Rattle.datum.specs.declared.ShiftAnswer.{ShiftAnswer}
 use Rattle.datum.specs.declared.ShiftAnswer.the-variants as Shifted
 use Rattle.datum.specs.declared.PointAnswer.{PointAnswer}
 use Rattle.datum.specs.declared.PointAnswer.the-variants as Point
-use Rattle.datum.proofs.Codes.{not-shift, not-geoid, code-keeps}
+use Rattle.datum.proofs.Codes.{six, not-shift, not-geoid, code-keeps}
 use Rattle.datum.proofs.Points.{fit}
 use Rattle.datum.proofs.Refusals as refusals
+use Rattle.datum.proofs.Errors.{page-bounded, point-near, no-narrower, all-widened, of-a-shift, of-a-geoid}
 
 -- ---- 'Terms with the constant, in that order .. In all 157 terms'
 pub terms-counted : map (λ (page : Page). counted (page .equations)) pages ≡ shift 4 7 11 ∷ shift 16 9 9 ∷ shift 20 23 17 ∷ shift 9 7 9 ∷ geoid 9 ∷ geoid 7 ∷ []
@@ -111,6 +114,36 @@ four-bytes family code latitude longitude {values} h =
     let p = answered family code latitude longitude values .0 h in
     subst (λ (v : Family ℤ). each isFourBytes v ≡ true) (p .1 .1)
     (fit (pageOf code) (code-keeps code (p .0 .0)) latitude longitude (p .1 .0 .1))
+
+-- ---- demand 3: how near the answer is to the exact value of the printed polynomial
+-- the exact value is a fraction: dLat of code 1 at document 000's test point, times this bottom, is this top
+pub exact-worked : OfShift (exact (pageOf (pos 1)) (pos 125003316) (pos 116886026)) (λ dLat dLon dH. Within 0 1 (dLat times whole (pos 84375000000000000000000000)) (negℤ (pos 32776347003777073227729494015291)))
+unfolding exactOf _to-the_
+exact-worked = record { proper = lit< tt; near = lit≤ tt }
+
+module _ (family : Family (List Term) → Bool) (code latitude longitude : ℤ) where
+  -- whoever answers, each value is within its bound in the table
+  pub within-bounds : {values : Family ℤ} → asked family code latitude longitude ≡ gives values → AllWithin 1000 (boundsOf code) (exact (pageOf code) latitude longitude) values
+  within-bounds {values} h =
+      let p = answered family code latitude longitude values .0 h in
+      subst (AllWithin 1000 (boundsOf code) (exact (pageOf code) latitude longitude)) (p .1 .1)
+      (point-near (pageOf code) latitude longitude (p .1 .0 .1) 1000 (boundsOf code)
+      (six (λ z. T (page-bounded 1000 (boundsOf z) (pageOf z))) tt tt tt tt tt tt code (p .0 .0)))
+
+  -- so that demand 3 is met
+  pub as-demanded : {values : Family ℤ} → asked family code latitude longitude ≡ gives values → AllWithin 1 (demanded (pageOf code .equations)) (exact (pageOf code) latitude longitude) values
+  as-demanded {values} h =
+      all-widened 1000 1 (boundsOf code) (demanded (pageOf code .equations)) (exact (pageOf code) latitude longitude) values (lit< tt)
+      (six (λ z. T (no-narrower 1000 1 (boundsOf z) (demanded (pageOf z .equations)))) tt tt tt tt tt tt code (answered family code latitude longitude values .0 h .0 .0))
+      (within-bounds h)
+
+  -- a shift's three numbers are within 2, 2 and 1 units of the exact values of their polynomials
+  pub shift-near : (a b c : ℤ) → asked family code latitude longitude ≡ gives (shift a b c) → OfShift (exact (pageOf code) latitude longitude) (λ dLat dLon dH. Within 2 1 dLat a × Within 2 1 dLon b × Within 1 1 dH c)
+  shift-near a b c h = of-a-shift (pageOf code .equations) (exact (pageOf code) latitude longitude) a b c (as-demanded h)
+
+  -- and a geoid height is within 1
+  pub geoid-near : (a : ℤ) → asked family code latitude longitude ≡ gives (geoid a) → OfGeoid (exact (pageOf code) latitude longitude) (λ n. Within 1 1 n a)
+  geoid-near a h = of-a-geoid (pageOf code .equations) (exact (pageOf code) latitude longitude) a (as-demanded h)
 
 -- ---- 'that two permitted answers coincide is proved'
 -- two answers that say the same are the same

@@ -11,5 +11,7 @@ pub mod Points
 pub mod Calls
 -- when each number is given
 pub mod Refusals
+-- how near a point's answer is to the exact value: the test of each page, and what it shows
+pub mod Errors
 -- what document 01 asks of the tables, the areas and a point's answer
 pub mod Demands

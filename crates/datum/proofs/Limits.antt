@@ -32,10 +32,10 @@ use Rattle.datum.specs.Inside.{frameOf, TableFits, AllFit, Close}
 abbrev farthest : ℕ → ℕ → ℕ → ℕ
 farthest centre least largest = max (centre - least) (largest - centre)
 
-abbrev most-u : Page → ℕ
+abbrev pub most-u : Page → ℕ
 most-u page = nearest (page .k * farthest (page .latitude) (page .south) (page .north)) 3600000
 
-abbrev most-v : Page → ℕ
+abbrev pub most-v : Page → ℕ
 most-v page = nearest (page .k * farthest (page .longitude) (page .west) (page .east)) 3600000
 
 abbrev all-keep : ℕ → ℕ → Family (List Term) → Bool
@@ -96,28 +96,29 @@ module _ (page : Page) (h : T (page-keeps page)) where
         longitude = leb→le (page .longitude) 2000000000 (b .1);
       }
 
-  -- a point of the area
-  module _ (latitude longitude : ℤ) (inside : inArea page latitude longitude ≡ true) where
-    abbrev u : ℤ
-    u = fromCentre (pos (page .k)) (pos (page .latitude)) latitude
+-- ---- of a point of the area
+module _ (page : Page) (latitude longitude : ℤ) (inside : inArea page latitude longitude ≡ true) where
+  abbrev u : ℤ
+  u = fromCentre (pos (page .k)) (pos (page .latitude)) latitude
 
-    abbrev v : ℤ
-    v = fromCentre (pos (page .k)) (pos (page .longitude)) longitude
+  abbrev v : ℤ
+  v = fromCentre (pos (page .k)) (pos (page .longitude)) longitude
 
-    sides : (within (pos (page .south)) (pos (page .north)) latitude ≡ true) × (within (pos (page .west)) (pos (page .east)) longitude ≡ true)
-    sides = both (within (pos (page .south)) (pos (page .north)) latitude) (within (pos (page .west)) (pos (page .east)) longitude) inside
+  sides : (within (pos (page .south)) (pos (page .north)) latitude ≡ true) × (within (pos (page .west)) (pos (page .east)) longitude ≡ true)
+  sides = both (within (pos (page .south)) (pos (page .north)) latitude) (within (pos (page .west)) (pos (page .east)) longitude) inside
 
-    u-size : natAbs u ≤ most-u page
-    u-size = from-centre-size (page .k) (page .latitude) (page .south) (page .north) latitude (sides .0)
+  pub u-size : natAbs u ≤ most-u page
+  u-size = from-centre-size (page .k) (page .latitude) (page .south) (page .north) latitude (sides .0)
 
-    v-size : natAbs v ≤ most-v page
-    v-size = from-centre-size (page .k) (page .longitude) (page .west) (page .east) longitude (sides .1)
+  pub v-size : natAbs v ≤ most-v page
+  v-size = from-centre-size (page .k) (page .longitude) (page .west) (page .east) longitude (sides .1)
 
+  module _ (h : T (page-keeps page)) where
     pub u-small : natAbs u ≤ 1000000000
-    u-small = le-trans u-size (leb→le (most-u page) 1000000000 (rest .0))
+    u-small = le-trans u-size (leb→le (most-u page) 1000000000 (rest page h .0))
 
     pub v-small : natAbs v ≤ 1000000000
-    v-small = le-trans v-size (leb→le (most-v page) 1000000000 (last .0))
+    v-small = le-trans v-size (leb→le (most-v page) 1000000000 (last page h .0))
 
     works : (table : List Term) → T (keeps scale (most-u page) (most-v page) table) → TableFits table (powersOf scale u 10) (powersOf scale v 10)
     works table k = record {
@@ -133,4 +134,4 @@ module _ (page : Page) (h : T (page-keeps page)) where
     by-family (geoid n) k = works n k
 
     pub work : AllFit (page .equations) (powersOf scale u 10) (powersOf scale v 10)
-    work = by-family (page .equations) (last .1)
+    work = by-family (page .equations) (last page h .1)

@@ -55,10 +55,10 @@ module _ (page : Page) (latitude longitude : ℤ) where
     -- and so for the code, which reads x and y back from a struct
     module _ (h : T (page-keeps page)) (f : SFits w64 x) (g : SFits w64 y) where
       pub x-asks : natAbs (toZ w64 (ofZ w64 x)) ≤ 1000000000
-      x-asks = as-small x f (subst (λ (p : ℤ × ℤ). natAbs (p .0) ≤ 1000000000) (inside .1) (u-small page h latitude longitude (inside .0)))
+      x-asks = as-small x f (subst (λ (p : ℤ × ℤ). natAbs (p .0) ≤ 1000000000) (inside .1) (u-small page latitude longitude (inside .0) h))
 
       pub y-asks : natAbs (toZ w64 (ofZ w64 y)) ≤ 1000000000
-      y-asks = as-small y g (subst (λ (p : ℤ × ℤ). natAbs (p .1) ≤ 1000000000) (inside .1) (v-small page h latitude longitude (inside .0)))
+      y-asks = as-small y g (subst (λ (p : ℤ × ℤ). natAbs (p .1) ≤ 1000000000) (inside .1) (v-small page latitude longitude (inside .0) h))
 
       module _ {pu pv : List ℤ} (d : pu ≡ powersOf scale (toZ w64 (ofZ w64 x)) 10) (q : pv ≡ powersOf scale (toZ w64 (ofZ w64 y)) 10) where
         pu-is : pu ≡ powersOf scale x 10
@@ -70,7 +70,7 @@ module _ (page : Page) (latitude longitude : ℤ) where
         pub work-asks : AllFit (page .equations) pu pv
         work-asks =
             subst₂ (AllFit (page .equations)) (sym pu-is) (sym pv-is)
-            (subst (λ (p : ℤ × ℤ). AllFit (page .equations) (powersOf scale (p .0) 10) (powersOf scale (p .1) 10)) (inside .1) (work page h latitude longitude (inside .0)))
+            (subst (λ (p : ℤ × ℤ). AllFit (page .equations) (powersOf scale (p .0) 10) (powersOf scale (p .1) 10)) (inside .1) (work page latitude longitude (inside .0) h))
 
         pub answered : {values : Family ℤ} → values ≡ evaluated (page .equations) pu pv → gives values ≡ pointOf page latitude longitude
         answered k = ap gives (k ∙ (λ i. evaluated (page .equations) (pu-is i) (pv-is i))) ∙ ap (finished (page .equations)) (sym e) ∙ by-place
@@ -83,4 +83,4 @@ of-family (shift dLat dLon dH) pu pv w =
 of-family (geoid n) pu pv w = in-four-bytes (equationOf scale n pu pv) (w .fits)
 
 pub fit : (page : Page) → T (page-keeps page) → (latitude longitude : ℤ) → inArea page latitude longitude ≡ true → each isFourBytes (worked page latitude longitude) ≡ true
-fit page h latitude longitude inside = of-family (page .equations) (powersU page latitude) (powersV page longitude) (work page h latitude longitude inside)
+fit page h latitude longitude inside = of-family (page .equations) (powersU page latitude) (powersV page longitude) (work page latitude longitude inside h)

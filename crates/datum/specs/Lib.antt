@@ -6,6 +6,7 @@ pub mod Qatar
 pub mod Kandawala
 pub mod Nahrwan
 pub mod Point
+pub mod Exact
 pub mod Tables
 pub mod Cases
 pub mod Inside

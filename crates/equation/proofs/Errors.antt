@@ -21,6 +21,11 @@ use Rattle.equation.proofs.Fractions.{exact-proper}
 use Rattle.equation.proofs.Nearness.{Near, near-zero, near-one, near-one-times, near-times-one, near-quotient, near-product, near-sum, near-answer}
 
 -- ---- the test
+-- each power is among the ten
+abbrev in-ten : List Term → Bool
+in-ten [] = true
+in-ten (term c i j ∷ ts) = (ltb i 10 && ltb j 10) && in-ten ts
+
 module _ (s k : ℕ) where
   -- of a rounded product, by its factors' errors e and d and sizes m and n
   abbrev product-error : ℕ → ℕ → ℕ → ℕ → ℕ
@@ -42,11 +47,6 @@ module _ (s k : ℕ) where
   abbrev sum-error : ℕ → ℕ → List Term → ℕ
   sum-error mu mv [] = 0
   sum-error mu mv (term c i j ∷ ts) = natAbs c * term-error mu mv i j + sum-error mu mv ts
-
-  -- each power is among the ten
-  abbrev in-ten : List Term → Bool
-  in-ten [] = true
-  in-ten (term c i j ∷ ts) = (ltb i 10 && ltb j 10) && in-ten ts
 
   -- half a unit for the last rounding and the error of the sum are at most h nths of a unit
   abbrev pub bounded : ℕ → ℕ → ℕ → ℕ → ℕ → List Term → Bool
@@ -89,11 +89,11 @@ module _ {s k : ℕ} (hs : 0 < s) (hk : 0 < k) where
         (λ n. sym (powers-at s u (pos 0) 10 i hi) n *ℤ sym (powers-at s v (pos 0) 10 j hj) n) (term-near i j)
 
     -- the sum
-    sum-near : (ts : List Term) → T (in-ten s k ts) → Near s k (sum s ts (powersOf s u 10) (powersOf s v 10)) (exactOf ts f g) (sum-error s k mu mv ts)
+    sum-near : (ts : List Term) → T (in-ten ts) → Near s k (sum s ts (powersOf s u 10) (powersOf s v 10)) (exactOf ts f g) (sum-error s k mu mv ts)
     unfolding sum exactOf
     sum-near [] h = near-zero
     sum-near (term c i j ∷ ts) h =
-        let a = and-yes (ltb i 10 && ltb j 10) (in-ten s k ts) h in
+        let a = and-yes (ltb i 10 && ltb j 10) (in-ten ts) h in
         let b = and-yes (ltb i 10) (ltb j 10) (a .0) in
         near-sum c (product-near i j (ltb→lt i 10 (b .0)) (ltb→lt j 10 (b .1))) (sum-near ts (a .1))
 
@@ -103,7 +103,7 @@ module _ {s k : ℕ} (hs : 0 < s) (hk : 0 < k) where
       → natAbs (roundDiv a d) ≤ mu → natAbs (roundDiv b d) ≤ mv → T (bounded s k divisor mu mv h n ts)
       → Within h n (exactOf ts (a over (d * s)) (b over (d * s)) times (pos s over divisor)) (roundDiv (sum s ts (powersOf s (roundDiv a d) 10) (powersOf s (roundDiv b d) 10)) divisor)
   answer-near {d} {divisor} {mu} {mv} h n ts a b hd hv hu hw test =
-      let t = and-yes (in-ten s k ts) (leb (n * (k * divisor + 2 * sum-error s k mu mv ts)) (2 * divisor * h * k)) test in
+      let t = and-yes (in-ten ts) (leb (n * (k * divisor + 2 * sum-error s k mu mv ts)) (2 * divisor * h * k)) test in
       let below = mul-pos hd hs in
       near-answer hk h n hv (exact-proper (a over (d * s)) (b over (d * s)) below below ts)
       (leb→le (n * (k * divisor + 2 * sum-error s k mu mv ts)) (2 * divisor * h * k) (t .1))

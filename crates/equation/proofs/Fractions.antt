@@ -40,6 +40,13 @@ within-same {h} {k} {x} f g e p w = record {
         ∙ ap natAbs (crossed (f .bottom) (g .bottom) (f .top) (g .top) e)
         ∙ abs-* (x *ℤ pos (g .bottom) -ℤ g .top) (pos (f .bottom))
 
+-- a fraction times s / s
+pub same-times : (f : Fraction) (s : ℕ) → Same f (f times (pos s over s))
+same-times f s = apart (f .top) (f .bottom)
+  where
+    apart : (t : ℤ) (b : ℕ) → t *ℤ pos (b * s) ≡ t *ℤ pos s *ℤ pos b
+    apart t b = rw (by-diff t, pos-diff b, pos-diff s, pos-diff (b * s)) (simp ring₀ (diff-cong _ _ _ _ (omega arith)))
+
 -- a wider bound
 pub within-wider : {h k : ℕ} {f : Fraction} {x : ℤ} (h′ k′ : ℕ) → 0 < k → k′ * h ≤ h′ * k → Within h k f x → Within h′ k′ f x
 within-wider {h} {k} {f} {x} h′ k′ p t w = record {

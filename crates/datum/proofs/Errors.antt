@@ -1,0 +1,96 @@
+-- How near a point's values are to the exact ones: the test of a page, and what it shows of every point of the area. The
+-- theorem itself is `answer-near` of `equation`. Assumes nothing.
+use mathlib.Core.Path.{_≡_}
+use mathlib.Core.Bool.{Bool, true, false, not, _&&_}
+use mathlib.Core.List.{List}
+use Prim.Native.Nat.{ℕ, _-_, _*_, _<_}
+use native.Mathlib.Nat.{mul-pos}
+use lib.Dec.{T, leb, leb→le, lit<}
+use lib.IntN.{ℤ, pos, _-ℤ_, _*ℤ_}
+use mir.Facts.{and-yes}
+use Rattle.whole.specs.Round.{scale}
+use Rattle.equation.specs.Equation.{Term, equationOf}
+use Rattle.equation.specs.Exact.{Fraction, exactOf, Within}
+use Rattle.equation.proofs.Fractions.{exact-proper, same-times, within-same, within-wider}
+use Rattle.equation.proofs.Errors.{bounded, answer-near}
+use Rattle.datum.specs.Page.{Page, Family, shift, geoid}
+use Rattle.datum.specs.Point.{inArea, powersU, powersV, evaluated, worked}
+use Rattle.datum.specs.Exact.{exactFrom, polynomials, exact, OfShift, OfGeoid, AllWithin, demanded}
+use Rattle.datum.proofs.Limits.{most-u, most-v, u-size, v-size}
+
+-- ---- the test of a page
+-- errors on the way are counted in millionths
+abbrev fine : ℕ
+fine = 1000000
+
+abbrev tables-bounded : ℕ → ℕ → ℕ → Family ℕ → Family (List Term) → Bool
+tables-bounded mu mv n (shift h i j) (shift dLat dLon dH) =
+    bounded scale fine scale mu mv h n dLat && (bounded scale fine scale mu mv i n dLon && bounded scale fine scale mu mv j n dH)
+tables-bounded mu mv n (geoid h) (geoid table) = bounded scale fine scale mu mv h n table
+tables-bounded mu mv n (shift h i j) (geoid table) = false
+tables-bounded mu mv n (geoid h) (shift dLat dLon dH) = false
+
+abbrev pub page-bounded : ℕ → Family ℕ → Page → Bool
+page-bounded n bounds page = tables-bounded (most-u page) (most-v page) n bounds (page .equations)
+
+-- ---- what it shows of a point of the area
+module _ (page : Page) (latitude longitude : ℤ) (inside : inArea page latitude longitude ≡ true) where
+  abbrev exactU : Fraction
+  exactU = exactFrom (pos (page .k)) (pos (page .latitude)) latitude
+
+  abbrev exactV : Fraction
+  exactV = exactFrom (pos (page .k)) (pos (page .longitude)) longitude
+
+  table-near : (h n : ℕ) (table : List Term) → T (bounded scale fine scale (most-u page) (most-v page) h n table) → Within h n (exactOf table exactU exactV) (equationOf scale table (powersU page latitude) (powersV page longitude))
+  table-near h n table test =
+      within-same (exactOf table exactU exactV) _ (same-times (exactOf table exactU exactV) scale) (exact-proper exactU exactV (lit< tt) (lit< tt) table)
+      (answer-near {k = fine} (lit< tt) (lit< tt) h n table (pos (page .k) *ℤ (latitude -ℤ pos (page .latitude))) (pos (page .k) *ℤ (longitude -ℤ pos (page .longitude))) (lit< tt) (lit< tt)
+      (u-size page latitude longitude inside) (v-size page latitude longitude inside) test)
+
+  tables-near : (n : ℕ) (bounds : Family ℕ) (tables : Family (List Term)) → T (tables-bounded (most-u page) (most-v page) n bounds tables) → AllWithin n bounds (polynomials tables exactU exactV) (evaluated tables (powersU page latitude) (powersV page longitude))
+  tables-near n (shift h i j) (shift dLat dLon dH) test =
+      let a = and-yes (bounded scale fine scale (most-u page) (most-v page) h n dLat) (bounded scale fine scale (most-u page) (most-v page) i n dLon && bounded scale fine scale (most-u page) (most-v page) j n dH) test in
+      let b = and-yes (bounded scale fine scale (most-u page) (most-v page) i n dLon) (bounded scale fine scale (most-u page) (most-v page) j n dH) (a .1) in
+      (table-near h n dLat (a .0), table-near i n dLon (b .0), table-near j n dH (b .1))
+  tables-near n (geoid h) (geoid table) test = table-near h n table test
+  tables-near n (shift h i j) (geoid table) test = absurd test
+  tables-near n (geoid h) (shift dLat dLon dH) test = absurd test
+
+  pub point-near : (n : ℕ) (bounds : Family ℕ) → T (page-bounded n bounds page) → AllWithin n bounds (exact page latitude longitude) (worked page latitude longitude)
+  point-near n bounds test = tables-near n bounds (page .equations) test
+
+-- ---- wider bounds, in other parts of a unit
+abbrev pub no-narrower : ℕ → ℕ → Family ℕ → Family ℕ → Bool
+no-narrower n m (shift h i j) (shift o p q) = leb (m * h) (o * n) && (leb (m * i) (p * n) && leb (m * j) (q * n))
+no-narrower n m (geoid h) (geoid o) = leb (m * h) (o * n)
+no-narrower n m (shift h i j) (geoid o) = false
+no-narrower n m (geoid h) (shift o p q) = false
+
+shift-widened : {A : Type 0} {P Q : A → A → A → Type 0} (family : Family A) → ((a b c : A) → P a b c → Q a b c) → OfShift family P → OfShift family Q
+shift-widened (shift a b c) f p = f a b c p
+shift-widened (geoid n) f p = absurd p
+
+geoid-widened : {A : Type 0} {P Q : A → Type 0} (family : Family A) → ((a : A) → P a → Q a) → OfGeoid family P → OfGeoid family Q
+geoid-widened (shift a b c) f p = absurd p
+geoid-widened (geoid n) f p = f n p
+
+pub all-widened : (n m : ℕ) (narrow wide : Family ℕ) (exacts : Family Fraction) (values : Family ℤ) → 0 < n → T (no-narrower n m narrow wide) → AllWithin n narrow exacts values → AllWithin m wide exacts values
+all-widened n m (shift h i j) (shift o p q) exacts values l test =
+    let s = and-yes (leb (m * h) (o * n)) (leb (m * i) (p * n) && leb (m * j) (q * n)) test in
+    let t = and-yes (leb (m * i) (p * n)) (leb (m * j) (q * n)) (s .1) in
+    shift-widened exacts (λ dLat dLon dH. shift-widened values (λ a b c w.
+        (within-wider o m l (leb→le (m * h) (o * n) (s .0)) (w .0), within-wider p m l (leb→le (m * i) (p * n) (t .0)) (w .1), within-wider q m l (leb→le (m * j) (q * n) (t .1)) (w .2))))
+all-widened n m (geoid h) (geoid o) exacts values l test = geoid-widened exacts (λ height. geoid-widened values (λ a. within-wider o m l (leb→le (m * h) (o * n) test)))
+all-widened n m (shift h i j) (geoid o) exacts values l test = absurd test
+all-widened n m (geoid h) (shift o p q) exacts values l test = absurd test
+
+-- ---- the demand's bounds, where the answer is known to be of one family
+pub of-a-shift : (tables : Family (List Term)) (exacts : Family Fraction) (a b c : ℤ) → AllWithin 1 (demanded tables) exacts (shift a b c) → OfShift exacts (λ dLat dLon dH. Within 2 1 dLat a × Within 2 1 dLon b × Within 1 1 dH c)
+of-a-shift (shift s t u) exacts a b c w = w
+of-a-shift (geoid t) (shift f g e) a b c w = absurd w
+of-a-shift (geoid t) (geoid f) a b c w = absurd w
+
+pub of-a-geoid : (tables : Family (List Term)) (exacts : Family Fraction) (a : ℤ) → AllWithin 1 (demanded tables) exacts (geoid a) → OfGeoid exacts (λ n. Within 1 1 n a)
+of-a-geoid (geoid t) exacts a w = w
+of-a-geoid (shift s t u) (shift f g e) a w = absurd w
+of-a-geoid (shift s t u) (geoid f) a w = absurd w
