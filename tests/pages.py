@@ -299,8 +299,9 @@ def check():
     return wrong, len(points) + len(texts) + len(CENTRES) + len(PRINTED)
 
 
-if '--check' in sys.argv:
-    problems, held = check()
-    print('\n'.join(problems) or f'pages: {text().count(chr(10))} lines and {held} points of the papers agree')
-    sys.exit(1 if problems else 0)
-sys.stdout.write(text())
+if __name__ == '__main__':
+    if '--check' in sys.argv:
+        problems, held = check()
+        print('\n'.join(problems) or f'pages: {text().count(chr(10))} lines and {held} points of the papers agree')
+        sys.exit(1 if problems else 0)
+    sys.stdout.write(text())

@@ -4,13 +4,14 @@ use mathlib.Core.Bool.{Bool, true, false, not, false≢true}
 use mathlib.Core.List.{List, [], _∷_, map}
 use mathlib.Core.Logic.{_↔_, _⊎_}
 use Prim.Native.Nat.{ℕ}
-use lib.Dec.{T, lit<, lit≤}
+use lib.Dec.{T, lit<, lit≤, le→leb}
 use lib.IntN.{ℤ, pos, negℤ}
-use Rattle.whole.specs.Round.{scale}
+use Rattle.whole.specs.Round.{scale, roundDiv}
 use Rattle.kinds.specs.Answer.{Answer, gives, refused, provided}
 use Rattle.kinds.specs.Kinds.{within, isFourBytes}
 use Rattle.kinds.proofs.Answers.{number-back, rebuilt, determined}
-use Rattle.equation.specs.Equation.{Term}
+use Rattle.equation.specs.Powers.{power, powersOf}
+use Rattle.equation.specs.Equation.{Term, sum}
 use Rattle.equation.specs.Exact.{whole, _times_, _to-the_, exactOf, Within}
 use Rattle.equation.proofs.Demands as equation
 use Rattle.datum.specs.Page.{Page, Family, shift, geoid, isShift, isGeoid, isEither, each}
@@ -144,6 +145,23 @@ module _ (family : Family (List Term) → Bool) (code latitude longitude : ℤ) 
   -- and a geoid height is within 1
   pub geoid-near : (a : ℤ) → asked family code latitude longitude ≡ gives (geoid a) → OfGeoid (exact (pageOf code) latitude longitude) (λ n. Within 1 1 n a)
   geoid-near a h = of-a-geoid (pageOf code .equations) (exact (pageOf code) latitude longitude) a (as-demanded h)
+
+-- what is not so: that the last rounding is the only error. Of neither angle of code 2 is one half a bound; each is passed at
+-- a point of the area
+pub record Over-half : Type 0 where
+  pub latitude-worked : answerOf (pos 2) (pos 14444031) (pos 52498162) ≡ gives (shift (negℤ (pos 5818369)) (negℤ (pos 310459)) (pos 30368))
+  pub latitude-far : OfShift (exact (pageOf (pos 2)) (pos 14444031) (pos 52498162)) (λ dLat dLon dH. Within 1 2 dLat (negℤ (pos 5818369)) → ⊥)
+  pub longitude-worked : answerOf (pos 2) (pos 18086400) (pos 9000000) ≡ gives (shift (negℤ (pos 456159)) (negℤ (pos 309433)) (pos 27697))
+  pub longitude-far : OfShift (exact (pageOf (pos 2)) (pos 18086400) (pos 9000000)) (λ dLat dLon dH. Within 1 2 dLon (negℤ (pos 309433)) → ⊥)
+
+pub over-half : Over-half
+unfolding roundDiv power powersOf sum exactOf _to-the_
+over-half = record {
+  latitude-worked = refl;
+  latitude-far = λ w. absurd (le→leb _ _ (w .near));
+  longitude-worked = refl;
+  longitude-far = λ w. absurd (le→leb _ _ (w .near));
+}
 
 -- ---- 'that two permitted answers coincide is proved'
 -- two answers that say the same are the same

@@ -14,8 +14,9 @@ use Rattle.equation.specs.Exact.{Fraction, exactOf, Within}
 use Rattle.equation.proofs.Fractions.{exact-proper, same-times, within-same, within-wider}
 use Rattle.equation.proofs.Errors.{bounded, answer-near}
 use Rattle.datum.specs.Page.{Page, Family, shift, geoid}
-use Rattle.datum.specs.Point.{inArea, powersU, powersV, evaluated, worked}
-use Rattle.datum.specs.Exact.{exactFrom, polynomials, exact, OfShift, OfGeoid, AllWithin, demanded}
+use Rattle.datum.specs.Point.{isCode, pageOf, inArea, powersU, powersV, evaluated, worked}
+use Rattle.datum.specs.Exact.{exactFrom, polynomials, exact, OfShift, OfGeoid, AllWithin, demanded, boundsOf}
+use Rattle.datum.proofs.Codes.{six}
 use Rattle.datum.proofs.Limits.{most-u, most-v, u-size, v-size}
 
 -- ---- the test of a page
@@ -23,15 +24,29 @@ use Rattle.datum.proofs.Limits.{most-u, most-v, u-size, v-size}
 abbrev fine : ℕ
 fine = 1000000
 
+-- a table, by the limits of u and v, with the bound h nths
+abbrev table-bounded : ℕ → ℕ → ℕ → ℕ → List Term → Bool
+table-bounded mu mv n h table = bounded scale fine 3600000 scale mu mv h n table
+
 abbrev tables-bounded : ℕ → ℕ → ℕ → Family ℕ → Family (List Term) → Bool
-tables-bounded mu mv n (shift h i j) (shift dLat dLon dH) =
-    bounded scale fine scale mu mv h n dLat && (bounded scale fine scale mu mv i n dLon && bounded scale fine scale mu mv j n dH)
-tables-bounded mu mv n (geoid h) (geoid table) = bounded scale fine scale mu mv h n table
+tables-bounded mu mv n (shift h i j) (shift dLat dLon dH) = table-bounded mu mv n h dLat && (table-bounded mu mv n i dLon && table-bounded mu mv n j dH)
+tables-bounded mu mv n (geoid h) (geoid table) = table-bounded mu mv n h table
 tables-bounded mu mv n (shift h i j) (geoid table) = false
 tables-bounded mu mv n (geoid h) (shift dLat dLon dH) = false
 
 abbrev pub page-bounded : ℕ → Family ℕ → Page → Bool
 page-bounded n bounds page = tables-bounded (most-u page) (most-v page) n bounds (page .equations)
+
+-- ---- the bounds of specs/Exact are the smallest of which the test holds: of none less by a thousandth does it
+abbrev tables-fail : ℕ → ℕ → Family ℕ → Family (List Term) → Bool
+tables-fail mu mv (shift h i j) (shift dLat dLon dH) =
+    not (table-bounded mu mv 1000 (h - 1) dLat) && (not (table-bounded mu mv 1000 (i - 1) dLon) && not (table-bounded mu mv 1000 (j - 1) dH))
+tables-fail mu mv (geoid h) (geoid table) = not (table-bounded mu mv 1000 (h - 1) table)
+tables-fail mu mv (shift h i j) (geoid table) = false
+tables-fail mu mv (geoid h) (shift dLat dLon dH) = false
+
+pub smallest : (code : ℤ) → isCode code ≡ true → T (tables-fail (most-u (pageOf code)) (most-v (pageOf code)) (boundsOf code) (pageOf code .equations))
+smallest = six (λ z. T (tables-fail (most-u (pageOf z)) (most-v (pageOf z)) (boundsOf z) (pageOf z .equations))) tt tt tt tt tt tt
 
 -- ---- what it shows of a point of the area
 module _ (page : Page) (latitude longitude : ℤ) (inside : inArea page latitude longitude ≡ true) where
@@ -41,16 +56,20 @@ module _ (page : Page) (latitude longitude : ℤ) (inside : inArea page latitude
   abbrev exactV : Fraction
   exactV = exactFrom (pos (page .k)) (pos (page .longitude)) longitude
 
-  table-near : (h n : ℕ) (table : List Term) → T (bounded scale fine scale (most-u page) (most-v page) h n table) → Within h n (exactOf table exactU exactV) (equationOf scale table (powersU page latitude) (powersV page longitude))
+  abbrev holds : ℕ → ℕ → List Term → Bool
+  holds = table-bounded (most-u page) (most-v page)
+
+  table-near : (h n : ℕ) (table : List Term) → T (holds n h table) → Within h n (exactOf table exactU exactV) (equationOf scale table (powersU page latitude) (powersV page longitude))
   table-near h n table test =
       within-same (exactOf table exactU exactV) _ (same-times (exactOf table exactU exactV) scale) (exact-proper exactU exactV (lit< tt) (lit< tt) table)
-      (answer-near {k = fine} (lit< tt) (lit< tt) h n table (pos (page .k) *ℤ (latitude -ℤ pos (page .latitude))) (pos (page .k) *ℤ (longitude -ℤ pos (page .longitude))) (lit< tt) (lit< tt)
+      (answer-near scale fine 3600000 scale (most-u page) (most-v page) h n table
+      (pos (page .k) *ℤ (latitude -ℤ pos (page .latitude))) (pos (page .k) *ℤ (longitude -ℤ pos (page .longitude)))
       (u-size page latitude longitude inside) (v-size page latitude longitude inside) test)
 
   tables-near : (n : ℕ) (bounds : Family ℕ) (tables : Family (List Term)) → T (tables-bounded (most-u page) (most-v page) n bounds tables) → AllWithin n bounds (polynomials tables exactU exactV) (evaluated tables (powersU page latitude) (powersV page longitude))
   tables-near n (shift h i j) (shift dLat dLon dH) test =
-      let a = and-yes (bounded scale fine scale (most-u page) (most-v page) h n dLat) (bounded scale fine scale (most-u page) (most-v page) i n dLon && bounded scale fine scale (most-u page) (most-v page) j n dH) test in
-      let b = and-yes (bounded scale fine scale (most-u page) (most-v page) i n dLon) (bounded scale fine scale (most-u page) (most-v page) j n dH) (a .1) in
+      let a = and-yes (holds n h dLat) (holds n i dLon && holds n j dH) test in
+      let b = and-yes (holds n i dLon) (holds n j dH) (a .1) in
       (table-near h n dLat (a .0), table-near i n dLon (b .0), table-near j n dH (b .1))
   tables-near n (geoid h) (geoid table) test = table-near h n table test
   tables-near n (shift h i j) (geoid table) test = absurd test
@@ -79,7 +98,7 @@ all-widened n m (shift h i j) (shift o p q) exacts values l test =
     let s = and-yes (leb (m * h) (o * n)) (leb (m * i) (p * n) && leb (m * j) (q * n)) test in
     let t = and-yes (leb (m * i) (p * n)) (leb (m * j) (q * n)) (s .1) in
     shift-widened exacts (λ dLat dLon dH. shift-widened values (λ a b c w.
-        (within-wider o m l (leb→le (m * h) (o * n) (s .0)) (w .0), within-wider p m l (leb→le (m * i) (p * n) (t .0)) (w .1), within-wider q m l (leb→le (m * j) (q * n) (t .1)) (w .2))))
+    (within-wider o m l (leb→le (m * h) (o * n) (s .0)) (w .0), within-wider p m l (leb→le (m * i) (p * n) (t .0)) (w .1), within-wider q m l (leb→le (m * j) (q * n) (t .1)) (w .2))))
 all-widened n m (geoid h) (geoid o) exacts values l test = geoid-widened exacts (λ height. geoid-widened values (λ a. within-wider o m l (leb→le (m * h) (o * n) test)))
 all-widened n m (shift h i j) (geoid o) exacts values l test = absurd test
 all-widened n m (geoid h) (shift o p q) exacts values l test = absurd test

@@ -4,11 +4,13 @@ use mathlib.Core.List.{List, [], _∷_, Perm}
 use mathlib.Core.Logic.{∥∥₁-elim}
 use Prim.Native.Nat.{ℕ, _+_, _<_, _≤_}
 use native.Mathlib.Omega.{arith}
-use lib.IntN.{ℤ, pos, _*ℤ_, ℤ-set}
+use lib.Dec.{lit<, lit≤, le→leb}
+use lib.IntN.{ℤ, pos, negℤ, _*ℤ_, ℤ-set}
 use lib.ListN.{length, getD}
 use Rattle.whole.specs.Round.{roundDiv, scale}
 use Rattle.equation.specs.Powers.{power, powersOf}
 use Rattle.equation.specs.Equation.{Term, term, sum, equationOf}
+use Rattle.equation.specs.Exact.{_over_, _to-the_, exactOf, Within}
 use Rattle.equation.proofs.Steps.{power-next, length-powers, powers-at}
 use Rattle.equation.proofs.Sums.{sum-any-order}
 
@@ -40,3 +42,22 @@ pub record Worked : Type 0 where
 pub worked : Worked
 unfolding roundDiv power powersOf sum
 worked = record { fourth = refl; not-by-squaring = refl; summed-first = refl }
+
+-- ---- 'The exact value for demand 3'
+pub record Exact : Type 0 where
+  -- 6 U U V + 1 at U = 1 / 2 and V = 2 / 3 is 2, and nothing is lost
+  pub polynomial : Within 0 1 (exactOf (term (pos 6) 2 1 ∷ term (pos 1) 0 0 ∷ []) (pos 1 over 2) (pos 2 over 3)) (pos 2)
+  -- 'a zeroth power being 1', of zero too
+  pub zeroth : Within 0 1 (exactOf (term (pos 5) 0 0 ∷ []) (pos 0 over 7) (negℤ (pos 3) over 2)) (pos 5)
+  -- 7 and -2 are within 9 / 2 of 5 / 2, and 8 and -3 are not
+  pub within : Within 9 2 (pos 5 over 2) (pos 7) × Within 9 2 (pos 5 over 2) (negℤ (pos 2))
+  pub not-within : (Within 9 2 (pos 5 over 2) (pos 8) → ⊥) × (Within 9 2 (pos 5 over 2) (negℤ (pos 3)) → ⊥)
+
+pub exact : Exact
+unfolding exactOf _to-the_
+exact = record {
+  polynomial = record { proper = lit< tt; near = lit≤ tt };
+  zeroth = record { proper = lit< tt; near = lit≤ tt };
+  within = (record { proper = lit< tt; near = lit≤ tt }, record { proper = lit< tt; near = lit≤ tt });
+  not-within = ((λ w. absurd (le→leb 22 18 (w .near))), (λ w. absurd (le→leb 22 18 (w .near))));
+}

@@ -48,9 +48,16 @@ module _ (s k : ℕ) where
   sum-error mu mv [] = 0
   sum-error mu mv (term c i j ∷ ts) = natAbs c * term-error mu mv i j + sum-error mu mv ts
 
+  -- no divisor is zero
+  abbrev divisors : ℕ → ℕ → Bool
+  divisors d divisor = (ltb 0 s && ltb 0 k) && (ltb 0 d && ltb 0 divisor)
+
   -- half a unit for the last rounding and the error of the sum are at most h nths of a unit
-  abbrev pub bounded : ℕ → ℕ → ℕ → ℕ → ℕ → List Term → Bool
-  bounded divisor mu mv h n ts = in-ten ts && leb (n * (k * divisor + 2 * sum-error mu mv ts)) (2 * divisor * h * k)
+  abbrev at-most : ℕ → ℕ → ℕ → ℕ → ℕ → List Term → Bool
+  at-most divisor mu mv h n ts = leb (n * (k * divisor + 2 * sum-error mu mv ts)) (2 * divisor * h * k)
+
+  abbrev pub bounded : ℕ → ℕ → ℕ → ℕ → ℕ → ℕ → List Term → Bool
+  bounded d divisor mu mv h n ts = divisors d divisor && (in-ten ts && at-most divisor mu mv h n ts)
 
 -- ---- what it shows
 above : (n : ℕ) {m : ℕ} → 0 < m → n ≤ m * (n / m + 1)
@@ -97,14 +104,20 @@ module _ {s k : ℕ} (hs : 0 < s) (hk : 0 < k) where
         let b = and-yes (ltb i 10) (ltb j 10) (a .0) in
         near-sum c (product-near i j (ltb→lt i 10 (b .0)) (ltb→lt j 10 (b .1))) (sum-near ts (a .1))
 
-  -- the answer, of u = a / d and v = b / d rounded: it is within h nths of a unit of the exact value, which the scale and the
-  -- last divisor carry into the answer's unit
-  pub answer-near : {d divisor mu mv : ℕ} (h n : ℕ) (ts : List Term) (a b : ℤ) → 0 < d → 0 < divisor
-      → natAbs (roundDiv a d) ≤ mu → natAbs (roundDiv b d) ≤ mv → T (bounded s k divisor mu mv h n ts)
-      → Within h n (exactOf ts (a over (d * s)) (b over (d * s)) times (pos s over divisor)) (roundDiv (sum s ts (powersOf s (roundDiv a d) 10) (powersOf s (roundDiv b d) 10)) divisor)
-  answer-near {d} {divisor} {mu} {mv} h n ts a b hd hv hu hw test =
-      let t = and-yes (in-ten ts) (leb (n * (k * divisor + 2 * sum-error s k mu mv ts)) (2 * divisor * h * k)) test in
-      let below = mul-pos hd hs in
-      near-answer hk h n hv (exact-proper (a over (d * s)) (b over (d * s)) below below ts)
-      (leb→le (n * (k * divisor + 2 * sum-error s k mu mv ts)) (2 * divisor * h * k) (t .1))
-      (sum-near hu hw (near-quotient a hd) (near-quotient b hd) ts (t .0))
+-- the answer, of u = a / d and v = b / d rounded: it is within h nths of a unit of the exact value, which the scale over the
+-- last divisor carries into the answer's unit
+pub answer-near : (s k d divisor mu mv h n : ℕ) (ts : List Term) (a b : ℤ) → natAbs (roundDiv a d) ≤ mu → natAbs (roundDiv b d) ≤ mv → T (bounded s k d divisor mu mv h n ts)
+    → Within h n (exactOf ts (a over (d * s)) (b over (d * s)) times (pos s over divisor)) (roundDiv (sum s ts (powersOf s (roundDiv a d) 10) (powersOf s (roundDiv b d) 10)) divisor)
+answer-near s k d divisor mu mv h n ts a b hu hv test =
+    let t = and-yes (divisors s k d divisor) (in-ten ts && at-most s k divisor mu mv h n ts) test in
+    let r = and-yes (in-ten ts) (at-most s k divisor mu mv h n ts) (t .1) in
+    let p = and-yes (ltb 0 s && ltb 0 k) (ltb 0 d && ltb 0 divisor) (t .0) in
+    let q = and-yes (ltb 0 s) (ltb 0 k) (p .0) in
+    let o = and-yes (ltb 0 d) (ltb 0 divisor) (p .1) in
+    let hs = ltb→lt 0 s (q .0) in
+    let hk = ltb→lt 0 k (q .1) in
+    let hd = ltb→lt 0 d (o .0) in
+    let proper = mul-pos hd hs in
+    near-answer hk h n (ltb→lt 0 divisor (o .1)) (exact-proper (a over (d * s)) (b over (d * s)) proper proper ts)
+    (leb→le (n * (k * divisor + 2 * sum-error s k mu mv ts)) (2 * divisor * h * k) (r .1))
+    (sum-near hs hk hu hv (near-quotient a hd) (near-quotient b hd) ts (r .0))
