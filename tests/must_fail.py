@@ -2,9 +2,9 @@
 """No must-fail edit was refused for a name or the text alone: reads what the prover said of each, after rt ci.
 
 An edit that makes a file unreadable, or a proof file name what is not there or answer another need, is refused too and
-shows nothing. So no error may be about a name or the text, and an edit of the definitions alone must break a theorem of a
-Demands.antt itself. That an edited program is wrong, and not only another than the one proved, tests/wrong_programs.py shows
-by running it.
+shows nothing. So no error may be about a name or the text. An edit of the definitions alone must break a theorem of a
+Demands.antt itself, and one of a computed test, in proofs/, a law of the file that it is in. That an edited program is wrong,
+and not only another than the one proved, tests/wrong_programs.py shows by running it.
 """
 import glob
 import os
@@ -23,7 +23,9 @@ for edit in sorted(glob.glob('crates/*/must-fail/*.edit')):
         wrong.append(f'{edit}: no log at {log}')
         continue
     with open(edit, encoding='utf-8') as f:
-        of_definitions = 'file: src/' not in f.read()
+        files = re.findall(r'^file: (.*)$', f.read(), re.M)
+    # the file in which a law must break by itself
+    breaks = None if any(f.startswith('src/') for f in files) else next((f for f in files if f.startswith('proofs/')), 'Demands.antt')
     with open(log, encoding='utf-8') as f:
         said = f.read()
     # an error is its line and the indented lines under it; one that only follows from another says 'was not admitted'
@@ -33,8 +35,8 @@ for edit in sorted(glob.glob('crates/*/must-fail/*.edit')):
         wrong.append(f'{edit}: the log names no error')
     elif unfit:
         wrong.append(f'{edit}: the edit does not fit the text: {unfit[0].splitlines()[0][:200]}')
-    elif of_definitions and not any('/Demands.antt:' in e and 'was not admitted' not in e for e in errors):
-        wrong.append(f'{edit}: it breaks no theorem of a Demands.antt')
+    elif breaks and not any(f'/{breaks}:' in e and 'was not admitted' not in e for e in errors):
+        wrong.append(f'{edit}: it breaks no law of {breaks}')
     seen += 1
 print('\n'.join(wrong) or f'must-fail: {seen} edits, none refused for a name or the text')
 sys.exit(1 if wrong or not seen else 0)

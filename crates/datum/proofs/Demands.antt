@@ -1,20 +1,23 @@
 -- What document 01 asks of the tables, of the areas and of a point's answer. Stated over specs/ alone. Assumes nothing.
 use mathlib.Core.Path.{_≡_, refl, sym, ap, subst}
-use mathlib.Core.Bool.{Bool, true, false, not, false≢true}
+use mathlib.Core.Bool.{Bool, true, false, false≢true}
 use mathlib.Core.List.{List, [], _∷_, map}
 use mathlib.Core.Logic.{_↔_, _⊎_}
-use Prim.Native.Nat.{ℕ}
+use Prim.Native.Nat.{ℕ, _<_}
 use lib.Dec.{T, lit<, lit≤, le→leb}
 use lib.IntN.{ℤ, pos, negℤ}
+use lib.ListN.{getD}
 use Rattle.whole.specs.Round.{scale, roundDiv}
+use Rattle.whole.proofs.Below.{all-below, below}
 use Rattle.kinds.specs.Answer.{Answer, gives, refused, provided}
 use Rattle.kinds.specs.Kinds.{within, isFourBytes}
 use Rattle.kinds.proofs.Answers.{number-back, rebuilt, determined}
 use Rattle.equation.specs.Powers.{power, powersOf}
 use Rattle.equation.specs.Equation.{Term, sum}
-use Rattle.equation.specs.Exact.{whole, _times_, _to-the_, exactOf, Within}
+use Rattle.equation.specs.Exact.{Fraction, whole, _times_, _to-the_, exactOf, Within}
 use Rattle.equation.proofs.Demands as equation
 use Rattle.datum.specs.Page.{Page, Family, shift, geoid, isShift, isGeoid, isEither, each}
+use Rattle.datum.specs.Cyprus.{cyprus}
 use Rattle.datum.specs.Point.{isCode, pages, pageOf, inArea, inRange, evaluated, worked, pointOf, asked, answerOf, shiftOf, geoidOf}
 use Rattle.datum.specs.Exact.{exact, OfShift, OfGeoid, AllWithin, demanded, boundsOf}
 use Rattle.datum.specs.Tables.{counted, inAll, stands, Reordered, ends, every}
@@ -29,7 +32,7 @@ use Rattle.datum.specs.declared.PointAnswer.the-variants as Point
 use Rattle.datum.proofs.Codes.{six, not-shift, not-geoid, code-keeps}
 use Rattle.datum.proofs.Points.{fit}
 use Rattle.datum.proofs.Refusals as refusals
-use Rattle.datum.proofs.Errors.{page-bounded, point-near, no-narrower, all-widened, of-a-shift, of-a-geoid}
+use Rattle.datum.proofs.Errors.{page-bounded, point-near, no-narrower, all-widened, of-a-shift, of-a-geoid, all-apart, no-one-answer}
 
 -- ---- 'Terms with the constant, in that order .. In all 157 terms'
 pub terms-counted : map (λ (page : Page). counted (page .equations)) pages ≡ shift 4 7 11 ∷ shift 16 9 9 ∷ shift 20 23 17 ∷ shift 9 7 9 ∷ geoid 9 ∷ geoid 7 ∷ []
@@ -162,6 +165,18 @@ over-half = record {
   longitude-worked = refl;
   longitude-far = λ w. absurd (le→leb _ _ (w .near));
 }
+
+-- 'One fixed answer breaks demand 3 between two centres': whichever two of the six
+abbrev at-centre : ℕ → Family Fraction
+at-centre n =
+    let page = getD pages n cyprus in
+    exact page (pos (page .latitude)) (pos (page .longitude))
+
+pub no-fixed-answer : (m n : ℕ) → m < n → n < 6 → (values : Family ℤ) → AllWithin 1 (demanded values) (at-centre m) values → AllWithin 1 (demanded values) (at-centre n) values → ⊥
+unfolding exactOf _to-the_
+no-fixed-answer m n h k values =
+    no-one-answer (at-centre m) (at-centre n) values
+    (below n (λ i. all-apart (at-centre i) (at-centre n)) (below 6 (λ j. all-below j (λ i. all-apart (at-centre i) (at-centre j))) tt n k) m h)
 
 -- ---- 'that two permitted answers coincide is proved'
 -- two answers that say the same are the same

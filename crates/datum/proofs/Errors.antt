@@ -4,14 +4,14 @@ use mathlib.Core.Path.{_≡_}
 use mathlib.Core.Bool.{Bool, true, false, not, _&&_}
 use mathlib.Core.List.{List}
 use Prim.Native.Nat.{ℕ, _-_, _*_, _<_}
-use native.Mathlib.Nat.{mul-pos}
-use lib.Dec.{T, leb, leb→le, lit<}
-use lib.IntN.{ℤ, pos, _-ℤ_, _*ℤ_}
+use native.Mathlib.Omega.{arith}
+use lib.Dec.{T, leb, leb→le, ltb, ltb→lt, lit<, lit≤}
+use lib.IntN.{ℤ, pos, natAbs, _-ℤ_, _*ℤ_}
 use mir.Facts.{and-yes}
 use Rattle.whole.specs.Round.{scale}
 use Rattle.equation.specs.Equation.{Term, equationOf}
 use Rattle.equation.specs.Exact.{Fraction, exactOf, Within}
-use Rattle.equation.proofs.Fractions.{exact-proper, same-times, within-same, within-wider}
+use Rattle.equation.proofs.Fractions.{exact-proper, same-times, within-same, within-wider, within-both}
 use Rattle.equation.proofs.Errors.{bounded, answer-near}
 use Rattle.datum.specs.Page.{Page, Family, shift, geoid}
 use Rattle.datum.specs.Point.{isCode, pageOf, inArea, powersU, powersV, evaluated, worked}
@@ -113,3 +113,27 @@ pub of-a-geoid : (tables : Family (List Term)) (exacts : Family Fraction) (a : �
 of-a-geoid (geoid t) exacts a w = w
 of-a-geoid (shift s t u) (shift f g e) a w = absurd w
 of-a-geoid (shift s t u) (geoid f) a w = absurd w
+
+-- ---- two points whose exact values no one answer meets
+-- more than four units apart, so that nothing is within two of both
+abbrev apart : Fraction → Fraction → Bool
+apart f g = ltb (4 * (f .bottom * g .bottom)) (natAbs (f .top *ℤ pos (g .bottom) -ℤ g .top *ℤ pos (f .bottom)))
+
+-- of two shifts by dLat; a shift and a geoid height are no one answer
+abbrev pub all-apart : Family Fraction → Family Fraction → Bool
+all-apart (shift f a b) (shift g c d) = apart f g
+all-apart (geoid f) (geoid g) = apart f g
+all-apart (shift f a b) (geoid g) = true
+all-apart (geoid f) (shift g c d) = true
+
+not-both : (f g : Fraction) (x : ℤ) → T (apart f g) → Within 2 1 f x → Within 2 1 g x → ⊥
+not-both f g x far v w =
+    absurd (omega (arith, within-both f g v w, ltb→lt (4 * (f .bottom * g .bottom)) (natAbs (f .top *ℤ pos (g .bottom) -ℤ g .top *ℤ pos (f .bottom))) far))
+
+pub no-one-answer : (e f : Family Fraction) (values : Family ℤ) → T (all-apart e f) → AllWithin 1 (demanded values) e values → AllWithin 1 (demanded values) f values → ⊥
+no-one-answer (shift e a b) (shift f c d) (shift x y z) far v w = not-both e f x far (v .0) (w .0)
+no-one-answer (geoid e) (geoid f) (geoid x) far v w = not-both e f x far (within-wider 2 1 (lit< tt) (lit≤ tt) v) (within-wider 2 1 (lit< tt) (lit≤ tt) w)
+no-one-answer (geoid e) f (shift x y z) far v w = v
+no-one-answer (shift e a b) (geoid f) (shift x y z) far v w = w
+no-one-answer (shift e a b) f (geoid x) far v w = v
+no-one-answer (geoid e) (shift f c d) (geoid x) far v w = w

@@ -59,5 +59,5 @@ exact = record {
   polynomial = record { proper = lit< tt; near = lit≤ tt };
   zeroth = record { proper = lit< tt; near = lit≤ tt };
   within = (record { proper = lit< tt; near = lit≤ tt }, record { proper = lit< tt; near = lit≤ tt });
-  not-within = ((λ w. absurd (le→leb 22 18 (w .near))), (λ w. absurd (le→leb 22 18 (w .near))));
+  not-within = ((λ w. absurd (le→leb _ _ (w .near))), (λ w. absurd (le→leb _ _ (w .near))));
 }

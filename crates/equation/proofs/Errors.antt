@@ -2,20 +2,19 @@
 -- table, any limits of u and v, any scale, any last divisor and any bound. Assumes nothing.
 --
 -- Errors on the way are counted in kths of one at the scale and rounded up, so the larger k, the less is lost in counting.
-use mathlib.Core.Path.{_≡_, sym, ap, _∙_, subst}
+use mathlib.Core.Path.{sym, ap, _∙_, subst}
 use mathlib.Core.Bool.{Bool, true, _&&_}
 use mathlib.Core.List.{List, [], _∷_}
 use Prim.Native.Nat.{ℕ, zero, suc, _+_, _-_, _*_, _/_, _≤_, _<_}
 use native.Mathlib.Nat.{le-of-lt, lt-mul-div-succ, mul-pos}
 use lib.Dec.{T, leb, leb→le, ltb, ltb→lt, lit<}
-use lib.ListN.{getD}
-use lib.IntN.{ℤ, pos, natAbs, _+ℤ_, _*ℤ_, *ℤ-comm}
+use lib.IntN.{ℤ, pos, natAbs, _*ℤ_, *ℤ-comm}
 use mir.Facts.{and-yes}
 use Rattle.whole.specs.Round.{roundDiv}
 use Rattle.whole.proofs.Rounding.{round-exact}
 use Rattle.equation.specs.Powers.{power, powersOf}
 use Rattle.equation.specs.Equation.{Term, term, product, sum}
-use Rattle.equation.specs.Exact.{Fraction, _over_, whole, _times_, _to-the_, exactOf, Within}
+use Rattle.equation.specs.Exact.{Fraction, _over_, _times_, _to-the_, exactOf, Within}
 use Rattle.equation.proofs.Steps.{limit, power-size, powers-at}
 use Rattle.equation.proofs.Fractions.{exact-proper}
 use Rattle.equation.proofs.Nearness.{Near, near-zero, near-one, near-one-times, near-times-one, near-quotient, near-product, near-sum, near-answer}

@@ -1,18 +1,25 @@
 -- Fractions: when two are the same, which is within what, and the exact value over one common power. Assumes nothing.
-use mathlib.Core.Path.{_≡_, refl, sym, ap, _∙_}
+use mathlib.Core.Path.{_≡_, sym, ap, _∙_}
 use mathlib.Core.Bool.{Bool, true, _&&_}
 use mathlib.Core.List.{List, [], _∷_}
 use Prim.Native.Nat.{ℕ, zero, suc, _+_, _-_, _*_, _^_, _≤_, _<_}
-use native.Mathlib.Nat.{mul-pos, mul-le-mul-left, mul-le-mul-right, le-of-mul-le-mul-left, le-of-mul-le-mul-right, pow-zero, pow-suc}
+use native.Mathlib.Nat.{mul-pos, mul-le-mul-left, mul-le-mul-right, le-of-mul-le-mul-left, le-of-mul-le-mul-right, pow-zero, pow-suc, one-mul, mul-one}
 use native.Mathlib.Omega.{arith}
 use lib.Dec.{T, leb, leb→le, lit<}
 use lib.Pow.{pow-add}
-use lib.IntN.{ℤ, pos, natAbs, _+ℤ_, _-ℤ_, _*ℤ_, pow, one, zero-*ℤ}
+use lib.IntN.{ℤ, pos, natAbs, _+ℤ_, _-ℤ_, _*ℤ_, pow, one, zero-*ℤ, *ℤ-comm}
 use mir.Facts.{and-yes}
-use Rattle.whole.proofs.Ring.{by-diff, pos-diff, diff-cong, ring₀}
-use Rattle.whole.proofs.Sizes.{abs-*}
+use Rattle.whole.proofs.Ring.{by-diff, pos-diff, diff-cong, ring₀, one-*ℤ, -ℤ-*ℤ}
+use Rattle.whole.proofs.Sizes.{abs--, abs-*}
 use Rattle.equation.specs.Equation.{Term, term}
-use Rattle.equation.specs.Exact.{Fraction, _over_, whole, _plus_, _times_, _to-the_, exactOf, Within}
+use Rattle.equation.specs.Exact.{Fraction, _over_, whole, _times_, _to-the_, exactOf, Within}
+
+-- ---- times 1
+pub one-times : (f : Fraction) → whole (pos 1) times f ≡ f
+one-times f = λ i. one-*ℤ (f .top) i over one-mul (f .bottom) i
+
+pub times-one : (f : Fraction) → f times whole (pos 1) ≡ f
+times-one f = λ i. (*ℤ-comm (f .top) (pos 1) ∙ one-*ℤ (f .top)) i over mul-one (f .bottom) i
 
 -- ---- two fractions that are the same
 abbrev pub Same : Fraction → Fraction → Type 0
@@ -25,19 +32,19 @@ within-same {h} {k} {x} f g e p w = record {
   near = le-of-mul-le-mul-right (omega (arith, mul-le-mul-right (f .bottom) (w .near), ap (λ (n : ℕ). k * n) apart)) (w .proper);
 }
   where
-    crossed : (A B : ℕ) (X Y : ℤ) → X *ℤ pos B ≡ Y *ℤ pos A → (x *ℤ pos A -ℤ X) *ℤ pos B ≡ (x *ℤ pos B -ℤ Y) *ℤ pos A
-    crossed A B X Y h = by-hand ∙ ap (λ (z : ℤ). x *ℤ pos A *ℤ pos B -ℤ z) h ∙ sym turned
-      where
-        by-hand : (x *ℤ pos A -ℤ X) *ℤ pos B ≡ x *ℤ pos A *ℤ pos B -ℤ X *ℤ pos B
-        by-hand = rw (by-diff x, by-diff X, pos-diff A, pos-diff B) (simp ring₀ (diff-cong _ _ _ _ (omega arith)))
+    swapped : (a b : ℕ) → x *ℤ pos a *ℤ pos b ≡ x *ℤ pos b *ℤ pos a
+    swapped a b = rw (by-diff x, pos-diff a, pos-diff b) (simp ring₀ (diff-cong _ _ _ _ (omega arith)))
 
-        turned : (x *ℤ pos B -ℤ Y) *ℤ pos A ≡ x *ℤ pos A *ℤ pos B -ℤ Y *ℤ pos A
-        turned = rw (by-diff x, by-diff Y, pos-diff A, pos-diff B) (simp ring₀ (diff-cong _ _ _ _ (omega arith)))
+    crossed : (t u : ℤ) (a b : ℕ) → t *ℤ pos b ≡ u *ℤ pos a → (x *ℤ pos a -ℤ t) *ℤ pos b ≡ (x *ℤ pos b -ℤ u) *ℤ pos a
+    crossed t u a b e =
+        -ℤ-*ℤ (x *ℤ pos a) t (pos b)
+        ∙ (λ i. swapped a b i -ℤ e i)
+        ∙ sym (-ℤ-*ℤ (x *ℤ pos b) u (pos a))
 
     apart : natAbs (x *ℤ pos (f .bottom) -ℤ f .top) * g .bottom ≡ natAbs (x *ℤ pos (g .bottom) -ℤ g .top) * f .bottom
     apart =
         sym (abs-* (x *ℤ pos (f .bottom) -ℤ f .top) (pos (g .bottom)))
-        ∙ ap natAbs (crossed (f .bottom) (g .bottom) (f .top) (g .top) e)
+        ∙ ap natAbs (crossed (f .top) (g .top) (f .bottom) (g .bottom) e)
         ∙ abs-* (x *ℤ pos (g .bottom) -ℤ g .top) (pos (f .bottom))
 
 -- a fraction times s / s
@@ -53,6 +60,29 @@ within-wider {h} {k} {f} {x} h′ k′ p t w = record {
   proper = w .proper;
   near = le-of-mul-le-mul-left {k = k} (omega (arith, mul-le-mul-left k′ (w .near), mul-le-mul-right (f .bottom) t)) p;
 }
+
+-- a number near two fractions: they are near each other
+pub within-both : {h k : ℕ} {x : ℤ} (f g : Fraction) → Within h k f x → Within h k g x → k * natAbs (f .top *ℤ pos (g .bottom) -ℤ g .top *ℤ pos (f .bottom)) ≤ 2 * h * (f .bottom * g .bottom)
+within-both {h} {k} {x} f g v w =
+    omega (
+      arith,
+      mul-le-mul-left k (apart (f .top) (g .top) (f .bottom) (g .bottom)),
+      mul-le-mul-right (g .bottom) (v .near),
+      mul-le-mul-right (f .bottom) (w .near),
+    )
+  where
+    parts : (t u : ℤ) (a b : ℕ) → t *ℤ pos b -ℤ u *ℤ pos a ≡ (x *ℤ pos b -ℤ u) *ℤ pos a -ℤ (x *ℤ pos a -ℤ t) *ℤ pos b
+    parts t u a b = rw (by-diff t, by-diff u, by-diff x, pos-diff a, pos-diff b) (simp ring₀ (diff-cong _ _ _ _ (omega arith)))
+
+    apart : (t u : ℤ) (a b : ℕ) → natAbs (t *ℤ pos b -ℤ u *ℤ pos a) ≤ natAbs (x *ℤ pos b -ℤ u) * a + natAbs (x *ℤ pos a -ℤ t) * b
+    apart t u a b =
+        omega (
+          arith,
+          ap natAbs (parts t u a b),
+          abs-- ((x *ℤ pos b -ℤ u) *ℤ pos a) ((x *ℤ pos a -ℤ t) *ℤ pos b),
+          abs-* (x *ℤ pos b -ℤ u) (pos a),
+          abs-* (x *ℤ pos a -ℤ t) (pos b),
+        )
 
 -- ---- no bottom is zero
 pub power-proper : (f : Fraction) → 0 < f .bottom → (n : ℕ) → 0 < (f to-the n) .bottom
@@ -94,7 +124,7 @@ summed : (c t x y : ℤ) (d m r e : ℕ) → d * r ≡ e → x *ℤ pos e ≡ y 
 summed c t x y d m r e h k = left ∙ ap (λ (z : ℤ). c *ℤ t *ℤ pos m *ℤ pos (d * r) +ℤ z *ℤ pos d) k ∙ right
   where
     left : (c *ℤ t *ℤ pos m +ℤ x *ℤ pos (1 * d)) *ℤ pos e ≡ c *ℤ t *ℤ pos m *ℤ pos (d * r) +ℤ x *ℤ pos e *ℤ pos d
-    left = rw (h) (rw (by-diff c, by-diff t, by-diff x, pos-diff m, pos-diff (1 * d), pos-diff d, pos-diff e) (simp ring₀ (diff-cong _ _ _ _ (omega arith))))
+    left = rw h (rw (by-diff c, by-diff t, by-diff x, pos-diff m, pos-diff (1 * d), pos-diff d, pos-diff e) (simp ring₀ (diff-cong _ _ _ _ (omega arith))))
 
     right : c *ℤ t *ℤ pos m *ℤ pos (d * r) +ℤ y *ℤ pos m *ℤ pos d ≡ (c *ℤ t *ℤ pos r +ℤ y) *ℤ pos (1 * d * m)
     right = rw (by-diff c, by-diff t, by-diff y, pos-diff m, pos-diff r, pos-diff (1 * d * m), pos-diff d, pos-diff (d * r)) (simp ring₀ (diff-cong _ _ _ _ (omega arith)))

@@ -12,7 +12,7 @@ use Rattle.whole.proofs.Sizes.{abs-*-≤, abs-round}
 use Rattle.whole.proofs.Rounding.{nearest-mono}
 use Rattle.whole.proofs.Products.{product-size}
 use Rattle.equation.specs.Powers.{powersOf}
-use Rattle.equation.specs.Equation.{Term, term, product, sum, equationOf}
+use Rattle.equation.specs.Equation.{Term, term, product, equationOf}
 use Rattle.equation.specs.Room.{Fitting, Each, sizes, Room}
 use Rattle.equation.proofs.Steps.{limit, power-size, powers-at}
 use Rattle.equation.proofs.Sums.{sum-size}

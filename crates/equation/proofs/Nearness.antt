@@ -2,7 +2,7 @@
 --
 -- At a scale s a whole number x stands for x / s. `Near s k x f e`: it is f, within e kths of one at the scale. Each law
 -- below is a step of the rule, and says what the error is after it.
-use mathlib.Core.Path.{_≡_, sym, ap, _∙_}
+use mathlib.Core.Path.{_≡_, sym, ap, _∙_, subst}
 use Prim.Native.Nat.{ℕ, _+_, _-_, _*_, _/_, _≤_, _<_}
 use native.Mathlib.Nat.{le-trans, le-of-eq, add-le-add, mul-pos, mul-le-mul, mul-le-mul-left, mul-le-mul-right, le-of-mul-le-mul-left}
 use native.Mathlib.Omega.{arith}
@@ -12,6 +12,7 @@ use Rattle.whole.proofs.Ring.{by-diff, pos-diff, diff-cong, ring₀}
 use Rattle.whole.proofs.Sizes.{abs-+, abs--, abs-*}
 use Rattle.whole.proofs.Rounding.{round-within}
 use Rattle.equation.specs.Exact.{Fraction, _over_, whole, _plus_, _times_, Within}
+use Rattle.equation.proofs.Fractions.{one-times, times-one}
 
 pub record Near (s k : ℕ) (x : ℤ) (f : Fraction) (e : ℕ) : Type 0 where
   pub near : k * natAbs (x *ℤ pos (f .bottom) -ℤ f .top *ℤ pos s) ≤ e * f .bottom
@@ -24,13 +25,13 @@ module _ (s : ℕ) where
     abbrev rounding : ℤ
     rounding = r *ℤ pos s -ℤ x *ℤ y
 
-    abbrev p : ℤ
-    p = x *ℤ pos a -ℤ t *ℤ pos s
+    abbrev off-x : ℤ
+    off-x = x *ℤ pos a -ℤ t *ℤ pos s
 
-    abbrev q : ℤ
-    q = y *ℤ pos b -ℤ u *ℤ pos s
+    abbrev off-y : ℤ
+    off-y = y *ℤ pos b -ℤ u *ℤ pos s
 
-    product-parts : (r *ℤ pos (a * b) -ℤ t *ℤ u *ℤ pos s) *ℤ pos s ≡ rounding *ℤ pos (a * b) +ℤ (p *ℤ (y *ℤ pos b) +ℤ x *ℤ pos a *ℤ q -ℤ p *ℤ q)
+    product-parts : (r *ℤ pos (a * b) -ℤ t *ℤ u *ℤ pos s) *ℤ pos s ≡ rounding *ℤ pos (a * b) +ℤ (off-x *ℤ (y *ℤ pos b) +ℤ x *ℤ pos a *ℤ off-y -ℤ off-x *ℤ off-y)
     product-parts =
         grouped (x *ℤ y) (t *ℤ u *ℤ pos s) (a * b)
         ∙ (λ i. rounding *ℤ pos (a * b) +ℤ (worked i -ℤ exact i))
@@ -48,21 +49,21 @@ module _ (s : ℕ) where
         factors : (x y t u : ℤ) → x *ℤ y -ℤ t *ℤ u ≡ (x -ℤ t) *ℤ y +ℤ x *ℤ (y -ℤ u) -ℤ (x -ℤ t) *ℤ (y -ℤ u)
         factors x y t u = rw (by-diff x, by-diff y, by-diff t, by-diff u) (simp ring₀ (diff-cong _ _ _ _ (omega arith)))
 
-    product-apart : natAbs (r *ℤ pos (a * b) -ℤ t *ℤ u *ℤ pos s) * s ≤ natAbs rounding * (a * b) + natAbs p * (natAbs y * b) + natAbs x * a * natAbs q + natAbs p * natAbs q
+    product-apart : natAbs (r *ℤ pos (a * b) -ℤ t *ℤ u *ℤ pos s) * s ≤ natAbs rounding * (a * b) + natAbs off-x * (natAbs y * b) + natAbs x * a * natAbs off-y + natAbs off-x * natAbs off-y
     product-apart =
         omega (
           arith,
           abs-* (r *ℤ pos (a * b) -ℤ t *ℤ u *ℤ pos s) (pos s),
           ap natAbs product-parts,
-          abs-+ (rounding *ℤ pos (a * b)) (p *ℤ (y *ℤ pos b) +ℤ x *ℤ pos a *ℤ q -ℤ p *ℤ q),
-          abs-- (p *ℤ (y *ℤ pos b) +ℤ x *ℤ pos a *ℤ q) (p *ℤ q),
-          abs-+ (p *ℤ (y *ℤ pos b)) (x *ℤ pos a *ℤ q),
+          abs-+ (rounding *ℤ pos (a * b)) (off-x *ℤ (y *ℤ pos b) +ℤ x *ℤ pos a *ℤ off-y -ℤ off-x *ℤ off-y),
+          abs-- (off-x *ℤ (y *ℤ pos b) +ℤ x *ℤ pos a *ℤ off-y) (off-x *ℤ off-y),
+          abs-+ (off-x *ℤ (y *ℤ pos b)) (x *ℤ pos a *ℤ off-y),
           abs-* rounding (pos (a * b)),
-          abs-* p (y *ℤ pos b),
-          ap (λ (n : ℕ). natAbs p * n) (abs-* y (pos b)),
-          abs-* (x *ℤ pos a) q,
-          ap (λ (n : ℕ). n * natAbs q) (abs-* x (pos a)),
-          abs-* p q,
+          abs-* off-x (y *ℤ pos b),
+          ap (λ (n : ℕ). natAbs off-x * n) (abs-* y (pos b)),
+          abs-* (x *ℤ pos a) off-y,
+          ap (λ (n : ℕ). n * natAbs off-y) (abs-* x (pos a)),
+          abs-* off-x off-y,
         )
 
   -- c x + y and its exact value
@@ -111,23 +112,17 @@ module _ {s k : ℕ} where
   near-zero = record { near = rw (zero-*ℤ (pos s)) (omega arith) }
 
   pub near-one : Near s k (pos s) (whole (pos 1)) 0
-  near-one = record { near = rw (same) (omega arith) }
+  near-one = record { near = rw same (omega arith) }
     where
       same : natAbs (pos s *ℤ pos 1 -ℤ pos 1 *ℤ pos s) ≡ 0
       same = ap natAbs (ap (λ (z : ℤ). pos s *ℤ pos 1 -ℤ z) (*ℤ-comm (pos 1) (pos s)) ∙ +ℤ-invr (pos s *ℤ pos 1))
 
   -- 1 times a fraction, and a fraction times 1
   pub near-one-times : {x : ℤ} {f : Fraction} {e : ℕ} → Near s k x f e → Near s k x (whole (pos 1) times f) e
-  near-one-times {x} {f} {e} h = record { near = rw (same (f .top) (f .bottom)) (omega (arith, h .near)) }
-    where
-      same : (t : ℤ) (b : ℕ) → x *ℤ pos (1 * b) -ℤ pos 1 *ℤ t *ℤ pos s ≡ x *ℤ pos b -ℤ t *ℤ pos s
-      same t b = rw (by-diff x, by-diff t, pos-diff 1, pos-diff s, pos-diff b, pos-diff (1 * b)) (simp ring₀ (diff-cong _ _ _ _ (omega arith)))
+  near-one-times {x} {f} {e} h = subst (λ (g : Fraction). Near s k x g e) (sym (one-times f)) h
 
   pub near-times-one : {x : ℤ} {f : Fraction} {e : ℕ} → Near s k x f e → Near s k x (f times whole (pos 1)) e
-  near-times-one {x} {f} {e} h = record { near = rw (same (f .top) (f .bottom)) (omega (arith, h .near)) }
-    where
-      same : (t : ℤ) (b : ℕ) → x *ℤ pos (b * 1) -ℤ t *ℤ pos 1 *ℤ pos s ≡ x *ℤ pos b -ℤ t *ℤ pos s
-      same t b = rw (by-diff x, by-diff t, pos-diff 1, pos-diff s, pos-diff b, pos-diff (b * 1)) (simp ring₀ (diff-cong _ _ _ _ (omega arith)))
+  near-times-one {x} {f} {e} h = subst (λ (g : Fraction). Near s k x g e) (sym (times-one f)) h
 
   -- ---- a quotient a / d, rounded: half a part
   pub near-quotient : (a : ℤ) {d : ℕ} → 0 < d → Near s k (roundDiv a d) (a over (d * s)) (k - k / 2)
