@@ -1,13 +1,12 @@
 -- How near a point's values are to the exact ones: the test of a page, and what it shows of every point of the area. The
 -- theorem itself is `answer-near` of `equation`. Assumes nothing.
 use mathlib.Core.Path.{_≡_}
-use mathlib.Core.Bool.{Bool, true, false, not, _&&_}
+use mathlib.Core.Bool.{Bool, true, not}
 use mathlib.Core.List.{List}
 use Prim.Native.Nat.{ℕ, _-_, _*_, _<_}
 use native.Mathlib.Omega.{arith}
 use lib.Dec.{T, leb, leb→le, ltb, ltb→lt, lit<, lit≤}
 use lib.IntN.{ℤ, pos, natAbs, _-ℤ_, _*ℤ_}
-use mir.Facts.{and-yes}
 use Rattle.whole.specs.Round.{scale}
 use Rattle.equation.specs.Equation.{Term, equationOf}
 use Rattle.equation.specs.Exact.{Fraction, exactOf, Within}
@@ -16,6 +15,7 @@ use Rattle.equation.proofs.Errors.{bounded, answer-near}
 use Rattle.datum.specs.Page.{Page, Family, shift, geoid}
 use Rattle.datum.specs.Point.{isCode, pageOf, inArea, powersU, powersV, evaluated, worked}
 use Rattle.datum.specs.Exact.{exactFrom, polynomials, exact, OfShift, OfGeoid, AllWithin, demanded, boundsOf}
+use Rattle.datum.proofs.Families.{paired, three, shift-so, geoid-so}
 use Rattle.datum.proofs.Codes.{six}
 use Rattle.datum.proofs.Limits.{most-u, most-v, u-size, v-size}
 
@@ -28,25 +28,16 @@ fine = 1000000
 abbrev table-bounded : ℕ → ℕ → ℕ → ℕ → List Term → Bool
 table-bounded mu mv n h table = bounded scale fine 3600000 scale mu mv h n table
 
-abbrev tables-bounded : ℕ → ℕ → ℕ → Family ℕ → Family (List Term) → Bool
-tables-bounded mu mv n (shift h i j) (shift dLat dLon dH) = table-bounded mu mv n h dLat && (table-bounded mu mv n i dLon && table-bounded mu mv n j dH)
-tables-bounded mu mv n (geoid h) (geoid table) = table-bounded mu mv n h table
-tables-bounded mu mv n (shift h i j) (geoid table) = false
-tables-bounded mu mv n (geoid h) (shift dLat dLon dH) = false
-
 abbrev pub page-bounded : ℕ → Family ℕ → Page → Bool
-page-bounded n bounds page = tables-bounded (most-u page) (most-v page) n bounds (page .equations)
+page-bounded n bounds page = paired (table-bounded (most-u page) (most-v page) n) bounds (page .equations)
 
--- ---- the bounds of specs/Exact are the smallest of which the test holds: of none less by a thousandth does it
-abbrev tables-fail : ℕ → ℕ → Family ℕ → Family (List Term) → Bool
-tables-fail mu mv (shift h i j) (shift dLat dLon dH) =
-    not (table-bounded mu mv 1000 (h - 1) dLat) && (not (table-bounded mu mv 1000 (i - 1) dLon) && not (table-bounded mu mv 1000 (j - 1) dH))
-tables-fail mu mv (geoid h) (geoid table) = not (table-bounded mu mv 1000 (h - 1) table)
-tables-fail mu mv (shift h i j) (geoid table) = false
-tables-fail mu mv (geoid h) (shift dLat dLon dH) = false
+-- the bounds of specs/Exact are the smallest of which the test holds: of none that is less by a thousandth does it
+abbrev none-smaller : ℤ → Bool
+none-smaller code =
+    paired (λ h table. not (table-bounded (most-u (pageOf code)) (most-v (pageOf code)) 1000 (h - 1) table)) (boundsOf code) (pageOf code .equations)
 
-pub smallest : (code : ℤ) → isCode code ≡ true → T (tables-fail (most-u (pageOf code)) (most-v (pageOf code)) (boundsOf code) (pageOf code .equations))
-smallest = six (λ z. T (tables-fail (most-u (pageOf z)) (most-v (pageOf z)) (boundsOf z) (pageOf z .equations))) tt tt tt tt tt tt
+pub smallest : (code : ℤ) → isCode code ≡ true → T (none-smaller code)
+smallest = six (λ z. T (none-smaller z)) tt tt tt tt tt tt
 
 -- ---- what it shows of a point of the area
 module _ (page : Page) (latitude longitude : ℤ) (inside : inArea page latitude longitude ≡ true) where
@@ -66,11 +57,10 @@ module _ (page : Page) (latitude longitude : ℤ) (inside : inArea page latitude
       (pos (page .k) *ℤ (latitude -ℤ pos (page .latitude))) (pos (page .k) *ℤ (longitude -ℤ pos (page .longitude)))
       (u-size page latitude longitude inside) (v-size page latitude longitude inside) test)
 
-  tables-near : (n : ℕ) (bounds : Family ℕ) (tables : Family (List Term)) → T (tables-bounded (most-u page) (most-v page) n bounds tables) → AllWithin n bounds (polynomials tables exactU exactV) (evaluated tables (powersU page latitude) (powersV page longitude))
+  tables-near : (n : ℕ) (bounds : Family ℕ) (tables : Family (List Term)) → T (paired (holds n) bounds tables) → AllWithin n bounds (polynomials tables exactU exactV) (evaluated tables (powersU page latitude) (powersV page longitude))
   tables-near n (shift h i j) (shift dLat dLon dH) test =
-      let a = and-yes (holds n h dLat) (holds n i dLon && holds n j dH) test in
-      let b = and-yes (holds n i dLon) (holds n j dH) (a .1) in
-      (table-near h n dLat (a .0), table-near i n dLon (b .0), table-near j n dH (b .1))
+      let t = three (holds n h dLat) (holds n i dLon) (holds n j dH) test in
+      (table-near h n dLat (t .0), table-near i n dLon (t .1), table-near j n dH (t .2))
   tables-near n (geoid h) (geoid table) test = table-near h n table test
   tables-near n (shift h i j) (geoid table) test = absurd test
   tables-near n (geoid h) (shift dLat dLon dH) test = absurd test
@@ -80,28 +70,21 @@ module _ (page : Page) (latitude longitude : ℤ) (inside : inArea page latitude
 
 -- ---- wider bounds, in other parts of a unit
 abbrev pub no-narrower : ℕ → ℕ → Family ℕ → Family ℕ → Bool
-no-narrower n m (shift h i j) (shift o p q) = leb (m * h) (o * n) && (leb (m * i) (p * n) && leb (m * j) (q * n))
-no-narrower n m (geoid h) (geoid o) = leb (m * h) (o * n)
-no-narrower n m (shift h i j) (geoid o) = false
-no-narrower n m (geoid h) (shift o p q) = false
-
-shift-widened : {A : Type 0} {P Q : A → A → A → Type 0} (family : Family A) → ((a b c : A) → P a b c → Q a b c) → OfShift family P → OfShift family Q
-shift-widened (shift a b c) f p = f a b c p
-shift-widened (geoid n) f p = absurd p
-
-geoid-widened : {A : Type 0} {P Q : A → Type 0} (family : Family A) → ((a : A) → P a → Q a) → OfGeoid family P → OfGeoid family Q
-geoid-widened (shift a b c) f p = absurd p
-geoid-widened (geoid n) f p = f n p
+no-narrower n m = paired (λ h o. leb (m * h) (o * n))
 
 pub all-widened : (n m : ℕ) (narrow wide : Family ℕ) (exacts : Family Fraction) (values : Family ℤ) → 0 < n → T (no-narrower n m narrow wide) → AllWithin n narrow exacts values → AllWithin m wide exacts values
-all-widened n m (shift h i j) (shift o p q) exacts values l test =
-    let s = and-yes (leb (m * h) (o * n)) (leb (m * i) (p * n) && leb (m * j) (q * n)) test in
-    let t = and-yes (leb (m * i) (p * n)) (leb (m * j) (q * n)) (s .1) in
-    shift-widened exacts (λ dLat dLon dH. shift-widened values (λ a b c w.
-    (within-wider o m l (leb→le (m * h) (o * n) (s .0)) (w .0), within-wider p m l (leb→le (m * i) (p * n) (t .0)) (w .1), within-wider q m l (leb→le (m * j) (q * n) (t .1)) (w .2))))
-all-widened n m (geoid h) (geoid o) exacts values l test = geoid-widened exacts (λ height. geoid-widened values (λ a. within-wider o m l (leb→le (m * h) (o * n) test)))
-all-widened n m (shift h i j) (geoid o) exacts values l test = absurd test
-all-widened n m (geoid h) (shift o p q) exacts values l test = absurd test
+all-widened n m narrow wide exacts values l test = go narrow wide test
+  where
+    widened : {f : Fraction} {x : ℤ} (h o : ℕ) → T (leb (m * h) (o * n)) → Within h n f x → Within o m f x
+    widened h o t w = within-wider o m l (leb→le (m * h) (o * n) t) w
+
+    go : (narrow wide : Family ℕ) → T (no-narrower n m narrow wide) → AllWithin n narrow exacts values → AllWithin m wide exacts values
+    go (shift h i j) (shift o p q) test =
+        let t = three (leb (m * h) (o * n)) (leb (m * i) (p * n)) (leb (m * j) (q * n)) test in
+        shift-so exacts (λ dLat dLon dH. shift-so values (λ a b c w. (widened h o (t .0) (w .0), widened i p (t .1) (w .1), widened j q (t .2) (w .2))))
+    go (geoid h) (geoid o) test = geoid-so exacts (λ height. geoid-so values (λ a. widened h o test))
+    go (shift h i j) (geoid o) test = absurd test
+    go (geoid h) (shift o p q) test = absurd test
 
 -- ---- the demand's bounds, where the answer is known to be of one family
 pub of-a-shift : (tables : Family (List Term)) (exacts : Family Fraction) (a b c : ℤ) → AllWithin 1 (demanded tables) exacts (shift a b c) → OfShift exacts (λ dLat dLon dH. Within 2 1 dLat a × Within 2 1 dLon b × Within 1 1 dH c)

@@ -1,4 +1,6 @@
 -- The laws, by what they are about.
+-- what holds of each of a family's values
+pub mod Families
 -- how far a page reaches: what one computed test shows of every point of its area
 pub mod Limits
 -- the six codes: the page and the family of each

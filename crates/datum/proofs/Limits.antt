@@ -22,10 +22,11 @@ use Rattle.kinds.specs.Kinds.{within}
 use Rattle.equation.specs.Powers.{powersOf}
 use Rattle.equation.specs.Equation.{Term, equationOf}
 use Rattle.equation.proofs.Limits.{keeps, room, in-four-bytes}
-use Rattle.datum.specs.Page.{Page, Family, shift, geoid}
+use Rattle.datum.specs.Page.{Page, Family, shift, geoid, each}
 use Rattle.datum.specs.Point.{pages, fromCentre, inArea}
 use Rattle.datum.specs.Cyprus.{cyprus}
 use Rattle.datum.specs.Inside.{frameOf, TableFits, AllFit, Close}
+use Rattle.datum.proofs.Families.{three}
 
 -- ---- the test
 -- the farthest from the centre, in ms, and in hundred-millionths
@@ -39,8 +40,7 @@ abbrev pub most-v : Page → ℕ
 most-v page = nearest (page .k * farthest (page .longitude) (page .west) (page .east)) 3600000
 
 abbrev all-keep : ℕ → ℕ → Family (List Term) → Bool
-all-keep mu mv (shift dLat dLon dH) = keeps scale mu mv dLat && (keeps scale mu mv dLon && keeps scale mu mv dH)
-all-keep mu mv (geoid n) = keeps scale mu mv n
+all-keep mu mv = each (keeps scale mu mv)
 
 abbrev frame-keeps : Page → Bool
 frame-keeps page = leb (page .k) 1000000000 && (leb (page .latitude) 2000000000 && leb (page .longitude) 2000000000)
@@ -128,9 +128,8 @@ module _ (page : Page) (latitude longitude : ℤ) (inside : inArea page latitude
 
     by-family : (tables : Family (List Term)) → T (all-keep (most-u page) (most-v page) tables) → AllFit tables (powersOf scale u 10) (powersOf scale v 10)
     by-family (shift dLat dLon dH) k =
-        let a = and-yes (keeps scale (most-u page) (most-v page) dLat) (keeps scale (most-u page) (most-v page) dLon && keeps scale (most-u page) (most-v page) dH) k in
-        let b = and-yes (keeps scale (most-u page) (most-v page) dLon) (keeps scale (most-u page) (most-v page) dH) (a .1) in
-        (works dLat (a .0), works dLon (b .0), works dH (b .1))
+        let t = three (keeps scale (most-u page) (most-v page) dLat) (keeps scale (most-u page) (most-v page) dLon) (keeps scale (most-u page) (most-v page) dH) k in
+        (works dLat (t .0), works dLon (t .1), works dH (t .2))
     by-family (geoid n) k = works n k
 
     pub work : AllFit (page .equations) (powersOf scale u 10) (powersOf scale v 10)
