@@ -1,13 +1,14 @@
 #!/usr/bin/env python3
 """How far the worked answers are from the exact values of the printed polynomials, beside the bounds that are proved.
 
-    python3 tests/errors.py           prints the table of docs/ERRORS.md
-    python3 tests/errors.py --check   holds it to docs/ERRORS.md, and the bounds to the definition and to demand 3
+    python3 tests/errors.py           prints the rows of the table in docs/ERRORS.md
+    python3 tests/errors.py --check   holds that page to them and to the sources that it quotes
 
 Over each area: its corners, points along its edges, and points spread over it. The exact value is a whole number over one
 power of 360,000,000,000,000, in Python's whole numbers. Nothing of the crates is used but the bounds, which are read from
-crates/datum/specs/Exact.antt.
+crates/datum/specs/Exact.antt. They are also held to demand 3, and to the same calculus in fractions.
 """
+import glob
 import re
 import sys
 from fractions import Fraction
@@ -18,26 +19,32 @@ import document_000
 import pages
 
 SCALE = 100_000_000
-BOTTOM = 360_000_000_000_000   # of exact U and V
-REST = [BOTTOM ** (9 - n) for n in range(10)]
+DEGREE = 3_600_000                          # in ms
+BOTTOM = 360_000_000_000_000                # of exact U and V
+LACKING = [BOTTOM ** (9 - n) for n in range(10)]
 WHOLE = BOTTOM ** 18
-DEGREE = 3_600_000             # in ms
-ALONG = 5_000                  # points of each edge
-SPREAD = 200_000               # points within
-# The fractions of the side by which a point within is beyond the one before it: the powers of 0.7548.., whose multiples
-# spread evenly over a square. In 64ths of a power of two.
-STEPS = (0xC13FA9A902A6328F, 0x91E10DA5C79E7B1D)
+ALONG = 5_000                               # steps along each edge
+WITHIN = 200_000                            # points within
+# How far a point within is beyond the one before it, as a fraction of each side in 64 bits: g and g * g, where g is the root of
+# g ** 3 + g ** 2 = 1. Their multiples spread evenly over a square.
+BEYOND = (0xC13FA9A902A6328F, 0x91E10DA5C79E7B1D)
 
 
 def places(code):
-    """Corners, edges and points within, as (latitude, longitude) in ms."""
+    """Edges with their corners, and points within, as latitude and longitude in ms."""
     south, north, west, east = pages.AREAS[code]
     for k in range(ALONG + 1):
         latitude, longitude = south + (north - south) * k // ALONG, west + (east - west) * k // ALONG
         yield from ((latitude, west), (latitude, east), (south, longitude), (north, longitude))
-    for k in range(1, SPREAD + 1):
-        x, y = (k * step % 2 ** 64 for step in STEPS)
+    for k in range(1, WITHIN + 1):
+        x, y = (k * step % 2 ** 64 for step in BEYOND)
         yield south + (north - south + 1) * x // 2 ** 64, west + (east - west + 1) * y // 2 ** 64
+
+
+def tops(code, place):
+    """K times the distance from the centre in ms: exact U and V, times BOTTOM."""
+    *centre, factor = document_000.frame(code)
+    return [factor * (x - degrees * DEGREE) for x, degrees in zip(place, centre)]
 
 
 def rounded(n, d):
@@ -46,52 +53,38 @@ def rounded(n, d):
 
 
 def tens(u):
-    """The ten powers of u, by the working rule."""
+    """The ten powers of u."""
     out = [SCALE, u]
     while len(out) < 10:
         out.append(rounded(out[-1] * u, SCALE))
     return out
 
 
-def worked(equations, u, v):
-    pu, pv = tens(u), tens(v)
+def worked(equations, a, b):
+    """Each equation by the working rule."""
+    pu, pv = tens(rounded(a, DEGREE)), tens(rounded(b, DEGREE))
     return [rounded(sum(c * rounded(pu[i] * pv[j], SCALE) for _, c, i, j in terms), SCALE) for _, _, terms in equations]
 
 
 def exact(equations, a, b):
-    """Of U and V, a and b over BOTTOM: the value of each equation, times BOTTOM ** 18."""
-    tops_u, tops_v = ([top ** n * REST[n] for n in range(10)] for top in (a, b))
-    return [sum(c * (tops_u[i] * tops_v[j]) for _, c, i, j in terms) for _, _, terms in equations]
+    """The exact value of each equation, times WHOLE."""
+    us, vs = ([top ** n * LACKING[n] for n in range(10)] for top in (a, b))
+    return [sum(c * (us[i] * vs[j]) for _, c, i, j in terms) for _, _, terms in equations]
 
 
 def largest(code):
-    """The largest distance of each equation, in units, and how many points were tried."""
+    """The code, how many points were tried, and of each equation the largest distance in units and its place."""
     *centre, factor = document_000.frame(code)
     equations = document_000.equations(code)
     seen, tried = [(-1, None)] * len(equations), 0
     for place in places(code):
         a, b = (factor * (x - degrees * DEGREE) for x, degrees in zip(place, centre))
-        found = worked(equations, rounded(a, DEGREE), rounded(b, DEGREE))
-        for n, (x, value) in enumerate(zip(found, exact(equations, a, b))):
-            seen[n] = max(seen[n], (abs(x * WHOLE - value), place), key=lambda pair: pair[0])
+        for n, (x, value) in enumerate(zip(worked(equations, a, b), exact(equations, a, b))):
+            distance = abs(x * WHOLE - value)
+            if distance > seen[n][0]:
+                seen[n] = distance, place
         tried += 1
-    return code, [(Fraction(distance, WHOLE), place) for distance, place in seen], tried
-
-
-def calculus(code):
-    """The bound of each equation: the errors of the roundings, carried through the rule in fractions. Nothing is rounded up."""
-    *centre, factor = document_000.frame(code)
-    south, north, west, east = pages.AREAS[code]
-    half = Fraction(1, 2)
-    sizes, errors = [], []
-    for degrees, least, most in zip(centre, (south, west), (north, east)):
-        size = rounded(factor * max(degrees * DEGREE - least, most - degrees * DEGREE), DEGREE)
-        sizes.append(tens(size))
-        errors.append([0, half])
-        for n in range(1, 9):
-            errors[-1].append(product_error(errors[-1][n], half, sizes[-1][n], size))
-    for _, _, terms in document_000.equations(code):
-        yield half + Fraction(sum(abs(c) * term_error(i, j, *errors, *sizes) for _, c, i, j in terms), SCALE)
+    return code, tried, [(Fraction(distance, WHOLE), place) for distance, place in seen]
 
 
 def product_error(e, d, m, n):
@@ -99,54 +92,81 @@ def product_error(e, d, m, n):
     return Fraction(1, 2) + (e * n + m * d + e * d) / SCALE
 
 
-def term_error(i, j, errors_u, errors_v, sizes_u, sizes_v):
-    """A product with a zeroth power is not rounded again."""
-    if i == 0 or j == 0:
-        return errors_u[i] + errors_v[j]
-    return product_error(errors_u[i], errors_v[j], sizes_u[i], sizes_v[j])
+def calculus(code):
+    """The bound of each equation, in units: the errors of the roundings, carried through the rule in fractions."""
+    south, north, west, east = pages.AREAS[code]
+    half, sizes, errors = Fraction(1, 2), [], []
+    for ends in zip(tops(code, (south, west)), tops(code, (north, east))):
+        size = max(abs(rounded(end, DEGREE)) for end in ends)
+        sizes.append(tens(size))
+        errors.append([Fraction(0), half])
+        for n in range(1, 9):
+            errors[-1].append(product_error(errors[-1][n], half, sizes[-1][n], size))
+
+    def term_error(i, j):
+        e, d = errors[0][i], errors[1][j]
+        # one with a zeroth power is not rounded again
+        return product_error(e, d, sizes[0][i], sizes[1][j]) if i and j else e + d
+
+    return [half + sum(abs(c) * term_error(i, j) for _, c, i, j in terms) / SCALE for _, _, terms in document_000.equations(code)]
 
 
 def proved():
     """The bounds in thousandths, by code, as the definition has them."""
     with open('crates/datum/specs/Exact.antt', encoding='utf-8') as f:
         block = re.search(r'^bounds =\n(.*?)\n    ∷ \[\]$', f.read(), re.M | re.S)[1]
-    rows = [re.fullmatch(r'    (?:∷ )?(?:shift|geoid)((?: \d+)+)', row) for row in block.split('\n')]
-    return {code: [int(h) for h in row[1].split()] for code, row in enumerate(rows, 1)}
+    found = [re.fullmatch(r'    (?:∷ )?(?:shift|geoid)((?: \d+)+)', row) for row in block.split('\n')]
+    return {code: [int(h) for h in row[1].split()] for code, row in enumerate(found, 1)}
 
 
-def rows():
-    """The table's rows; and what is wrong with them."""
+def table():
+    """The rows, and what is wrong with them."""
     with Pool(2) as pool:
-        seen = {code: (found, tried) for code, found, tried in pool.imap_unordered(largest, [3, 2, 4, 1, 5, 6])}
-    bounds, out, wrong = proved(), [], []
-    for code in pages.AREAS:
-        found, tried = seen[code]
-        for (name, places_, _), by, h, (distance, place) in zip(document_000.equations(code), calculus(code), bounds[code], found):
+        seen = {code: rest for code, *rest in pool.imap_unordered(largest, [3, 2, 4, 1, 5, 6])}
+    bounds, rows, wrong = proved(), [], []
+    for code, (tried, found) in sorted(seen.items()):
+        for (name, decimals, _), by, h, (distance, place) in zip(document_000.equations(code), calculus(code), bounds[code], found, strict=True):
+            equation = f'code {code}, {name}'
             if h != ceil(1000 * by):
-                wrong.append(f'code {code}, {name}: the calculus gives {float(by)}, and the definition has {h}')
-            if distance >= Fraction(h, 1000) or h > (2000 if places_ == 5 else 1000):
-                wrong.append(f'code {code}, {name}: {float(distance)} was seen, and the bound is {h}')
-            out.append(f'| {code} | {name} | {ceil(by * 10 ** 5) / 10 ** 5:.5f} | {h} | {float(distance):.5f} | {place[0]}, {place[1]} | {tried} |')
-    return out, wrong
+                wrong.append(f'{equation}: the calculus gives {float(by)}, and the definition has {h}')
+            if distance >= Fraction(h, 1000):
+                wrong.append(f'{equation}: {float(distance)} was seen, and the definition has {h}')
+            if h > (2000 if decimals == 5 else 1000):
+                wrong.append(f'{equation}: {h} is more than demand 3 allows')
+            rows.append(f'| {code} | {name} | {ceil(by * 10 ** 5) / 10 ** 5:.5f} | {h} | {float(distance):.5f} | {place[0]}, {place[1]} | {tried} |')
+    return rows, wrong
+
+
+def alike():
+    """The points of the papers: this script works them as tests/pages.py does, which the compiled program is held to."""
+    points = [pages.centre(code) for code in pages.AREAS] + [p[:3] for p in pages.PRINTED] + pages.OTHERS
+    for code, *place in points:
+        here = ' '.join(map(str, worked(document_000.equations(code), *tops(code, place))))
+        if here != pages.worked(code, *place):
+            yield f'code {code} at {place}: {here} here, and {pages.worked(code, *place)} in tests/pages.py'
+
+
+def held(rows):
+    """What docs/ERRORS.md has otherwise than the rows and the sources."""
+    with open('docs/ERRORS.md', encoding='utf-8') as f:
+        lines = f.read().split('\n')
+    if [line for line in lines if re.match(r'\| \d', line)] != rows:
+        yield 'docs/ERRORS.md has another table'
+    sources = ''
+    for path in glob.glob('crates/*/specs/*.antt') + glob.glob('crates/*/proofs/*.antt'):
+        with open(path, encoding='utf-8') as f:
+            sources += f.read()
+    yield from (f'docs/ERRORS.md quotes what no source has: {line}' for line in lines if line.startswith('    ') and line.strip() not in sources)
 
 
 def main():
-    out, wrong = rows()
-    for place in [pages.centre(code) for code in pages.AREAS] + [p[:3] for p in pages.PRINTED] + pages.OTHERS:
-        code, latitude, longitude = place
-        *centre, factor = document_000.frame(code)
-        u, v = (rounded(factor * (x - degrees * DEGREE), DEGREE) for x, degrees in zip((latitude, longitude), centre))
-        if ' '.join(map(str, worked(document_000.equations(code), u, v))) != pages.worked(*place):
-            wrong.append(f'{place} is worked otherwise than by tests/pages.py')
+    rows, wrong = table()
+    wrong += alike()
     if '--check' in sys.argv:
-        with open('docs/ERRORS.md', encoding='utf-8') as f:
-            held = [row for row in f.read().split('\n') if re.match(r'\| \d', row)]
-        wrong += [f'docs/ERRORS.md has {h}, and it is {r}' for h, r in zip(held, out) if h != r]
-        if len(held) != len(out):
-            wrong.append(f'docs/ERRORS.md has {len(held)} rows, and there are {len(out)} equations')
-        print('\n'.join(wrong) or f'errors: {len(out)} equations, each seen below its bound')
+        wrong += held(rows)
+        print('\n'.join(wrong) or f'errors: {len(rows)} equations, each seen below its bound')
     else:
-        print('\n'.join(out + wrong))
+        print('\n'.join(rows + wrong))
     sys.exit(1 if wrong else 0)
 
 
