@@ -3,23 +3,21 @@ use mathlib.Core.Path.{_≡_, refl, sym, ap, subst}
 use mathlib.Core.Bool.{Bool, true, false, false≢true}
 use mathlib.Core.List.{List, [], _∷_, map}
 use mathlib.Core.Logic.{_↔_, _⊎_}
-use Prim.Native.Nat.{ℕ, _<_}
-use lib.Dec.{T, lit<, lit≤, le→leb}
-use lib.IntN.{ℤ, pos, negℤ}
-use lib.ListN.{getD}
+use Prim.Native.Nat.{ℕ, _^_}
+use lib.Dec.{T, lit<, lit≤}
+use lib.IntN.{ℤ, pos, negℤ, _-ℤ_, _*ℤ_}
 use Rattle.whole.specs.Round.{scale, roundDiv}
-use Rattle.whole.proofs.Below.{all-below, below}
 use Rattle.kinds.specs.Answer.{Answer, gives, refused, provided}
 use Rattle.kinds.specs.Kinds.{within, isFourBytes}
 use Rattle.kinds.proofs.Answers.{number-back, rebuilt, determined}
 use Rattle.equation.specs.Powers.{power, powersOf}
 use Rattle.equation.specs.Equation.{Term, sum}
-use Rattle.equation.specs.Exact.{Fraction, whole, _times_, _to-the_, exactOf, Within}
+use Rattle.equation.specs.Exact.{whole, _times_, _to-the_, exactOf, Within, Beyond}
+use Rattle.equation.proofs.Fractions.{reaches}
 use Rattle.equation.proofs.Demands as equation
-use Rattle.datum.specs.Page.{Page, Family, shift, geoid, isShift, isGeoid, isEither, each}
-use Rattle.datum.specs.Cyprus.{cyprus}
+use Rattle.datum.specs.Page.{Page, Family, shift, geoid, isShift, isGeoid, isEither, each, Each, OfShift, OfGeoid}
 use Rattle.datum.specs.Point.{isCode, pages, pageOf, inArea, inRange, evaluated, worked, pointOf, asked, answerOf, shiftOf, geoidOf}
-use Rattle.datum.specs.Exact.{exact, OfShift, OfGeoid, AllWithin, demanded, boundsOf}
+use Rattle.datum.specs.Exact.{exact, AllWithin, demanded, boundsOf}
 use Rattle.datum.specs.Tables.{counted, inAll, stands, Reordered, ends, every}
 use Rattle.datum.specs.Cases.{shiftAnswer, geoidAnswer, pointAnswer}
 use Rattle.kinds.specs.declared.Refusal.the-variants as Refusal
@@ -32,7 +30,7 @@ use Rattle.datum.specs.declared.PointAnswer.the-variants as Point
 use Rattle.datum.proofs.Codes.{six, not-shift, not-geoid, code-keeps}
 use Rattle.datum.proofs.Points.{fit}
 use Rattle.datum.proofs.Refusals as refusals
-use Rattle.datum.proofs.Errors.{page-bounded, point-near, no-narrower, all-widened, of-a-shift, of-a-geoid, all-apart, no-one-answer}
+use Rattle.datum.proofs.Errors.{page-bounded, point-near, no-narrower, all-widened, over-power, centres-apart, no-one-answer}
 
 -- ---- 'Terms with the constant, in that order .. In all 157 terms'
 pub terms-counted : map (λ (page : Page). counted (page .equations)) pages ≡ shift 4 7 11 ∷ shift 16 9 9 ∷ shift 20 23 17 ∷ shift 9 7 9 ∷ geoid 9 ∷ geoid 7 ∷ []
@@ -125,8 +123,14 @@ pub exact-worked : OfShift (exact (pageOf (pos 1)) (pos 125003316) (pos 11688602
 unfolding exactOf _to-the_
 exact-worked = record { proper = lit< tt; near = lit≤ tt }
 
+-- each exact value is a whole number over the 18th power of 360,000,000,000,000
+pub over-one-power : (code latitude longitude : ℤ) → isCode code ≡ true → Each (λ f. (n : ℤ) × Within 0 1 (f times whole (pos (360000000000000 ^ 18))) n) (exact (pageOf code) latitude longitude)
+over-one-power code latitude longitude h =
+    over-power 18 (pos (pageOf code .k) *ℤ (latitude -ℤ pos (pageOf code .latitude))) (pos (pageOf code .k) *ℤ (longitude -ℤ pos (pageOf code .longitude))) (pageOf code .equations) (lit< tt)
+    (six (λ z. T (each (reaches 18) (pageOf z .equations))) tt tt tt tt tt tt code h)
+
 module _ (family : Family (List Term) → Bool) (code latitude longitude : ℤ) where
-  -- whoever answers, each value is within its bound in the table
+  -- whichever call gives values, each is within its bound in the table
   pub within-bounds : {values : Family ℤ} → asked family code latitude longitude ≡ gives values → AllWithin 1000 (boundsOf code) (exact (pageOf code) latitude longitude) values
   within-bounds {values} h =
       let p = answered family code latitude longitude values .0 h in
@@ -134,49 +138,45 @@ module _ (family : Family (List Term) → Bool) (code latitude longitude : ℤ) 
       (point-near (pageOf code) latitude longitude (p .1 .0 .1) 1000 (boundsOf code)
       (six (λ z. T (page-bounded 1000 (boundsOf z) (pageOf z))) tt tt tt tt tt tt code (p .0 .0)))
 
-  -- so that demand 3 is met
-  pub as-demanded : {values : Family ℤ} → asked family code latitude longitude ≡ gives values → AllWithin 1 (demanded (pageOf code .equations)) (exact (pageOf code) latitude longitude) values
+  -- so demand 3 is met
+  pub as-demanded : {values : Family ℤ} → asked family code latitude longitude ≡ gives values → AllWithin 1 (demanded values) (exact (pageOf code) latitude longitude) values
   as-demanded {values} h =
-      all-widened 1000 1 (boundsOf code) (demanded (pageOf code .equations)) (exact (pageOf code) latitude longitude) values (lit< tt)
-      (six (λ z. T (no-narrower 1000 1 (boundsOf z) (demanded (pageOf z .equations)))) tt tt tt tt tt tt code (answered family code latitude longitude values .0 h .0 .0))
+      let p = answered family code latitude longitude values .0 h in
+      all-widened 1000 1 (lit< tt) (boundsOf code) (demanded values) (exact (pageOf code) latitude longitude) values
+      (subst (λ (v : Family ℤ). T (no-narrower 1000 1 (boundsOf code) (demanded v))) (p .1 .1)
+      (six (λ z. T (no-narrower 1000 1 (boundsOf z) (demanded (worked (pageOf z) latitude longitude)))) tt tt tt tt tt tt code (p .0 .0)))
       (within-bounds h)
 
   -- a shift's three numbers are within 2, 2 and 1 units of the exact values of their polynomials
   pub shift-near : (a b c : ℤ) → asked family code latitude longitude ≡ gives (shift a b c) → OfShift (exact (pageOf code) latitude longitude) (λ dLat dLon dH. Within 2 1 dLat a × Within 2 1 dLon b × Within 1 1 dH c)
-  shift-near a b c h = of-a-shift (pageOf code .equations) (exact (pageOf code) latitude longitude) a b c (as-demanded h)
+  shift-near a b c h = as-demanded h
 
   -- and a geoid height is within 1
   pub geoid-near : (a : ℤ) → asked family code latitude longitude ≡ gives (geoid a) → OfGeoid (exact (pageOf code) latitude longitude) (λ n. Within 1 1 n a)
-  geoid-near a h = of-a-geoid (pageOf code .equations) (exact (pageOf code) latitude longitude) a (as-demanded h)
+  geoid-near a h = as-demanded h
 
 -- what is not so: that the last rounding is the only error. Of neither angle of code 2 is one half a bound; each is passed at
 -- a point of the area
 pub record Over-half : Type 0 where
   pub latitude-worked : answerOf (pos 2) (pos 14444031) (pos 52498162) ≡ gives (shift (negℤ (pos 5818369)) (negℤ (pos 310459)) (pos 30368))
-  pub latitude-far : OfShift (exact (pageOf (pos 2)) (pos 14444031) (pos 52498162)) (λ dLat dLon dH. Within 1 2 dLat (negℤ (pos 5818369)) → ⊥)
+  pub latitude-far : OfShift (exact (pageOf (pos 2)) (pos 14444031) (pos 52498162)) (λ dLat dLon dH. Beyond 1 2 dLat (negℤ (pos 5818369)))
   pub longitude-worked : answerOf (pos 2) (pos 18086400) (pos 9000000) ≡ gives (shift (negℤ (pos 456159)) (negℤ (pos 309433)) (pos 27697))
-  pub longitude-far : OfShift (exact (pageOf (pos 2)) (pos 18086400) (pos 9000000)) (λ dLat dLon dH. Within 1 2 dLon (negℤ (pos 309433)) → ⊥)
+  pub longitude-far : OfShift (exact (pageOf (pos 2)) (pos 18086400) (pos 9000000)) (λ dLat dLon dH. Beyond 1 2 dLon (negℤ (pos 309433)))
 
 pub over-half : Over-half
 unfolding roundDiv power powersOf sum exactOf _to-the_
 over-half = record {
   latitude-worked = refl;
-  latitude-far = λ w. absurd (le→leb _ _ (w .near));
+  latitude-far = record { proper = lit< tt; far = lit< tt };
   longitude-worked = refl;
-  longitude-far = λ w. absurd (le→leb _ _ (w .near));
+  longitude-far = record { proper = lit< tt; far = lit< tt };
 }
 
--- 'One fixed answer breaks demand 3 between two centres': whichever two of the six
-abbrev at-centre : ℕ → Family Fraction
-at-centre n =
-    let page = getD pages n cyprus in
-    exact page (pos (page .latitude)) (pos (page .longitude))
-
-pub no-fixed-answer : (m n : ℕ) → m < n → n < 6 → (values : Family ℤ) → AllWithin 1 (demanded values) (at-centre m) values → AllWithin 1 (demanded values) (at-centre n) values → ⊥
-unfolding exactOf _to-the_
-no-fixed-answer m n h k values =
-    no-one-answer (at-centre m) (at-centre n) values
-    (below n (λ i. all-apart (at-centre i) (at-centre n)) (below 6 (λ j. all-below j (λ i. all-apart (at-centre i) (at-centre j))) tt n k) m h)
+-- 'One fixed answer breaks demand 3 between two centres': whichever two they are
+pub no-fixed-answer : (c d : ℤ) → isCode c ≡ true → isCode d ≡ true → (c ≡ d → ⊥) → (values : Family ℤ)
+    → AllWithin 1 (demanded values) (exact (pageOf c) (pos (pageOf c .latitude)) (pos (pageOf c .longitude))) values
+    → AllWithin 1 (demanded values) (exact (pageOf d) (pos (pageOf d .latitude)) (pos (pageOf d .longitude))) values → ⊥
+no-fixed-answer c d h k other values = no-one-answer _ _ values (centres-apart c d h k other)
 
 -- ---- 'that two permitted answers coincide is proved'
 -- two answers that say the same are the same

@@ -1,45 +1,56 @@
 -- How near a point's values are to the exact ones: the test of a page, and what it shows of every point of the area. The
 -- theorem itself is `answer-near` of `equation`. Assumes nothing.
-use mathlib.Core.Path.{_≡_}
-use mathlib.Core.Bool.{Bool, true, not}
+use mathlib.Core.Path.{_≡_, refl}
+use mathlib.Core.Bool.{Bool, true, false, not}
 use mathlib.Core.List.{List}
-use Prim.Native.Nat.{ℕ, _-_, _*_, _<_}
+use Prim.Native.Nat.{ℕ, _-_, _*_, _^_, _≤_, _<_}
 use native.Mathlib.Omega.{arith}
 use lib.Dec.{T, leb, leb→le, ltb, ltb→lt, lit<, lit≤}
 use lib.IntN.{ℤ, pos, natAbs, _-ℤ_, _*ℤ_}
+use borrow.Author.Tests.{leb-true, leb-false}
 use Rattle.whole.specs.Round.{scale}
 use Rattle.equation.specs.Equation.{Term, equationOf}
-use Rattle.equation.specs.Exact.{Fraction, exactOf, Within}
-use Rattle.equation.proofs.Fractions.{exact-proper, same-times, within-same, within-wider, within-both}
-use Rattle.equation.proofs.Errors.{bounded, answer-near}
-use Rattle.datum.specs.Page.{Page, Family, shift, geoid}
+use Rattle.equation.specs.Exact.{Fraction, _over_, whole, _times_, _to-the_, exactOf, Within}
+use Rattle.equation.proofs.Fractions.{exact-proper, same-times, within-same, within-wider, within-both, reaches, common, over-common}
+use Rattle.equation.proofs.Errors.{bounded, bounded-wider, answer-near}
+use Rattle.datum.specs.Page.{Page, Family, shift, geoid, each, Each, Paired}
 use Rattle.datum.specs.Point.{isCode, pageOf, inArea, powersU, powersV, evaluated, worked}
-use Rattle.datum.specs.Exact.{exactFrom, polynomials, exact, OfShift, OfGeoid, AllWithin, demanded, boundsOf}
-use Rattle.datum.proofs.Families.{paired, three, shift-so, geoid-so}
+use Rattle.datum.specs.Exact.{exactFrom, polynomials, exact, AllWithin, demanded, boundsOf}
+use Rattle.datum.proofs.Families.{each-by, paired, paired-by, shift-so, geoid-so}
 use Rattle.datum.proofs.Codes.{six}
 use Rattle.datum.proofs.Limits.{most-u, most-v, u-size, v-size}
 
--- ---- the test of a page
+-- ---- the test of a page: each equation, with its bound in nths of a unit
 -- errors on the way are counted in millionths
-abbrev fine : ℕ
-fine = 1000000
-
--- a table, by the limits of u and v, with the bound h nths
-abbrev table-bounded : ℕ → ℕ → ℕ → ℕ → List Term → Bool
-table-bounded mu mv n h table = bounded scale fine 3600000 scale mu mv h n table
+abbrev holds : Page → ℕ → ℕ → List Term → Bool
+holds page n h table = bounded scale 1000000 3600000 scale (most-u page) (most-v page) h n table
 
 abbrev pub page-bounded : ℕ → Family ℕ → Page → Bool
-page-bounded n bounds page = paired (table-bounded (most-u page) (most-v page) n) bounds (page .equations)
+page-bounded n bounds page = paired (holds page n) bounds (page .equations)
 
--- the bounds of specs/Exact are the smallest of which the test holds: of none that is less by a thousandth does it
-abbrev none-smaller : ℤ → Bool
-none-smaller code =
-    paired (λ h table. not (table-bounded (most-u (pageOf code)) (most-v (pageOf code)) 1000 (h - 1) table)) (boundsOf code) (pageOf code .equations)
+-- ---- the bounds of specs/Exact are the smallest with which the test holds
+abbrev less-fails : ℤ → Bool
+less-fails code = paired (λ h table. not (holds (pageOf code) 1000 (h - 1) table)) (boundsOf code) (pageOf code .equations)
 
-pub smallest : (code : ℤ) → isCode code ≡ true → T (none-smaller code)
-smallest = six (λ z. T (none-smaller z)) tt tt tt tt tt tt
+at-least : (page : Page) (h : ℕ) (table : List Term) → T (not (holds page 1000 (h - 1) table)) → (g : ℕ) → T (holds page 1000 g table) → h ≤ g
+at-least page h table fails g passes = go (leb h g) refl
+  where
+    neither : (b : Bool) → T (not b) → T b → ⊥
+    neither true p q = p
+    neither false p q = q
 
--- ---- what it shows of a point of the area
+    go : (b : Bool) → leb h g ≡ b → h ≤ g
+    go true e = leb-true h g e
+    go false e =
+        let less : g ≤ h - 1 = omega (arith, leb-false h g e) in
+        absurd (neither (holds page 1000 (h - 1) table) fails (bounded-wider scale 1000000 3600000 scale (most-u page) (most-v page) 1000 table less passes))
+
+pub smallest : (code : ℤ) → isCode code ≡ true → Paired (λ h table. (g : ℕ) → T (holds (pageOf code) 1000 g table) → h ≤ g) (boundsOf code) (pageOf code .equations)
+smallest code h =
+    paired-by (λ h table. not (holds (pageOf code) 1000 (h - 1) table)) (at-least (pageOf code)) (boundsOf code) (pageOf code .equations)
+    (six (λ z. T (less-fails z)) tt tt tt tt tt tt code h)
+
+-- ---- what the test shows of a point of the area
 module _ (page : Page) (latitude longitude : ℤ) (inside : inArea page latitude longitude ≡ true) where
   abbrev exactU : Fraction
   exactU = exactFrom (pos (page .k)) (pos (page .latitude)) latitude
@@ -47,21 +58,16 @@ module _ (page : Page) (latitude longitude : ℤ) (inside : inArea page latitude
   abbrev exactV : Fraction
   exactV = exactFrom (pos (page .k)) (pos (page .longitude)) longitude
 
-  abbrev holds : ℕ → ℕ → List Term → Bool
-  holds = table-bounded (most-u page) (most-v page)
-
-  table-near : (h n : ℕ) (table : List Term) → T (holds n h table) → Within h n (exactOf table exactU exactV) (equationOf scale table (powersU page latitude) (powersV page longitude))
-  table-near h n table test =
+  table-near : (n h : ℕ) (table : List Term) → T (holds page n h table) → Within h n (exactOf table exactU exactV) (equationOf scale table (powersU page latitude) (powersV page longitude))
+  table-near n h table test =
       within-same (exactOf table exactU exactV) _ (same-times (exactOf table exactU exactV) scale) (exact-proper exactU exactV (lit< tt) (lit< tt) table)
-      (answer-near scale fine 3600000 scale (most-u page) (most-v page) h n table
+      (answer-near scale 1000000 3600000 scale (most-u page) (most-v page) h n table
       (pos (page .k) *ℤ (latitude -ℤ pos (page .latitude))) (pos (page .k) *ℤ (longitude -ℤ pos (page .longitude)))
       (u-size page latitude longitude inside) (v-size page latitude longitude inside) test)
 
-  tables-near : (n : ℕ) (bounds : Family ℕ) (tables : Family (List Term)) → T (paired (holds n) bounds tables) → AllWithin n bounds (polynomials tables exactU exactV) (evaluated tables (powersU page latitude) (powersV page longitude))
-  tables-near n (shift h i j) (shift dLat dLon dH) test =
-      let t = three (holds n h dLat) (holds n i dLon) (holds n j dH) test in
-      (table-near h n dLat (t .0), table-near i n dLon (t .1), table-near j n dH (t .2))
-  tables-near n (geoid h) (geoid table) test = table-near h n table test
+  tables-near : (n : ℕ) (bounds : Family ℕ) (tables : Family (List Term)) → T (paired (holds page n) bounds tables) → AllWithin n bounds (polynomials tables exactU exactV) (evaluated tables (powersU page latitude) (powersV page longitude))
+  tables-near n (shift h i j) (shift dLat dLon dH) test = paired-by (holds page n) (table-near n) (shift h i j) (shift dLat dLon dH) test
+  tables-near n (geoid h) (geoid table) test = table-near n h table test
   tables-near n (shift h i j) (geoid table) test = absurd test
   tables-near n (geoid h) (shift dLat dLon dH) test = absurd test
 
@@ -72,30 +78,31 @@ module _ (page : Page) (latitude longitude : ℤ) (inside : inArea page latitude
 abbrev pub no-narrower : ℕ → ℕ → Family ℕ → Family ℕ → Bool
 no-narrower n m = paired (λ h o. leb (m * h) (o * n))
 
-pub all-widened : (n m : ℕ) (narrow wide : Family ℕ) (exacts : Family Fraction) (values : Family ℤ) → 0 < n → T (no-narrower n m narrow wide) → AllWithin n narrow exacts values → AllWithin m wide exacts values
-all-widened n m narrow wide exacts values l test = go narrow wide test
+module _ (n m : ℕ) (p : 0 < n) where
+  widened : {f : Fraction} {x : ℤ} (h o : ℕ) → T (leb (m * h) (o * n)) → Within h n f x → Within o m f x
+  widened h o t w = within-wider o m p (leb→le (m * h) (o * n) t) w
+
+  pub all-widened : (narrow wide : Family ℕ) (exacts : Family Fraction) (values : Family ℤ) → T (no-narrower n m narrow wide) → AllWithin n narrow exacts values → AllWithin m wide exacts values
+  all-widened (shift h i j) (shift o q r) exacts values test =
+      let t = paired-by {P = λ a b. T (leb (m * a) (b * n))} (λ a b. leb (m * a) (b * n)) (λ a b u. u) (shift h i j) (shift o q r) test in
+      shift-so exacts (λ dLat dLon dH. shift-so values (λ a b c w. (widened h o (t .0) (w .0), widened i q (t .1) (w .1), widened j r (t .2) (w .2))))
+  all-widened (geoid h) (geoid o) exacts values test = geoid-so exacts (λ height. geoid-so values (λ a. widened h o test))
+  all-widened (shift h i j) (geoid o) exacts values test = absurd test
+  all-widened (geoid h) (shift o q r) exacts values test = absurd test
+
+-- ---- over one power of the bottom of U and V
+abbrev Over : ℕ → Fraction → Type 0
+Over d f = (n : ℤ) × Within 0 1 (f times whole (pos d)) n
+
+pub over-power : (n : ℕ) {d : ℕ} (a b : ℤ) (tables : Family (List Term)) → 0 < d → T (each (reaches n) tables) → Each (Over (d ^ n)) (polynomials tables (a over d) (b over d))
+over-power n {d} a b tables p test = go tables (each-by {P = At} (reaches n) (λ table t. (common d n a b table, over-common d n a b table p t)) tables test)
   where
-    widened : {f : Fraction} {x : ℤ} (h o : ℕ) → T (leb (m * h) (o * n)) → Within h n f x → Within o m f x
-    widened h o t w = within-wider o m l (leb→le (m * h) (o * n) t) w
+    At : List Term → Type 0
+    At table = Over (d ^ n) (exactOf table (a over d) (b over d))
 
-    go : (narrow wide : Family ℕ) → T (no-narrower n m narrow wide) → AllWithin n narrow exacts values → AllWithin m wide exacts values
-    go (shift h i j) (shift o p q) test =
-        let t = three (leb (m * h) (o * n)) (leb (m * i) (p * n)) (leb (m * j) (q * n)) test in
-        shift-so exacts (λ dLat dLon dH. shift-so values (λ a b c w. (widened h o (t .0) (w .0), widened i p (t .1) (w .1), widened j q (t .2) (w .2))))
-    go (geoid h) (geoid o) test = geoid-so exacts (λ height. geoid-so values (λ a. widened h o test))
-    go (shift h i j) (geoid o) test = absurd test
-    go (geoid h) (shift o p q) test = absurd test
-
--- ---- the demand's bounds, where the answer is known to be of one family
-pub of-a-shift : (tables : Family (List Term)) (exacts : Family Fraction) (a b c : ℤ) → AllWithin 1 (demanded tables) exacts (shift a b c) → OfShift exacts (λ dLat dLon dH. Within 2 1 dLat a × Within 2 1 dLon b × Within 1 1 dH c)
-of-a-shift (shift s t u) exacts a b c w = w
-of-a-shift (geoid t) (shift f g e) a b c w = absurd w
-of-a-shift (geoid t) (geoid f) a b c w = absurd w
-
-pub of-a-geoid : (tables : Family (List Term)) (exacts : Family Fraction) (a : ℤ) → AllWithin 1 (demanded tables) exacts (geoid a) → OfGeoid exacts (λ n. Within 1 1 n a)
-of-a-geoid (geoid t) exacts a w = w
-of-a-geoid (shift s t u) (shift f g e) a w = absurd w
-of-a-geoid (shift s t u) (geoid f) a w = absurd w
+    go : (tables : Family (List Term)) → Each At tables → Each (Over (d ^ n)) (polynomials tables (a over d) (b over d))
+    go (shift dLat dLon dH) w = w
+    go (geoid table) w = w
 
 -- ---- two points whose exact values no one answer meets
 -- more than four units apart, so that nothing is within two of both
@@ -103,7 +110,7 @@ abbrev apart : Fraction → Fraction → Bool
 apart f g = ltb (4 * (f .bottom * g .bottom)) (natAbs (f .top *ℤ pos (g .bottom) -ℤ g .top *ℤ pos (f .bottom)))
 
 -- of two shifts by dLat; a shift and a geoid height are no one answer
-abbrev pub all-apart : Family Fraction → Family Fraction → Bool
+abbrev all-apart : Family Fraction → Family Fraction → Bool
 all-apart (shift f a b) (shift g c d) = apart f g
 all-apart (geoid f) (geoid g) = apart f g
 all-apart (shift f a b) (geoid g) = true
@@ -120,3 +127,21 @@ no-one-answer (geoid e) f (shift x y z) far v w = v
 no-one-answer (shift e a b) (geoid f) (shift x y z) far v w = w
 no-one-answer (shift e a b) f (geoid x) far v w = v
 no-one-answer (geoid e) (shift f c d) (geoid x) far v w = w
+
+abbrev at-centre : ℤ → Family Fraction
+at-centre code = exact (pageOf code) (pos (pageOf code .latitude)) (pos (pageOf code .longitude))
+
+abbrev Apart : ℤ → ℤ → Type 0
+Apart c d = (c ≡ d → ⊥) → T (all-apart (at-centre c) (at-centre d))
+
+pub centres-apart : (c d : ℤ) → isCode c ≡ true → isCode d ≡ true → Apart c d
+unfolding exactOf _to-the_
+centres-apart c d h k =
+    six (λ x. (y : ℤ) → isCode y ≡ true → Apart x y)
+    (six (Apart (pos 1)) (λ n. absurd (n refl)) (λ n. tt) (λ n. tt) (λ n. tt) (λ n. tt) (λ n. tt))
+    (six (Apart (pos 2)) (λ n. tt) (λ n. absurd (n refl)) (λ n. tt) (λ n. tt) (λ n. tt) (λ n. tt))
+    (six (Apart (pos 3)) (λ n. tt) (λ n. tt) (λ n. absurd (n refl)) (λ n. tt) (λ n. tt) (λ n. tt))
+    (six (Apart (pos 4)) (λ n. tt) (λ n. tt) (λ n. tt) (λ n. absurd (n refl)) (λ n. tt) (λ n. tt))
+    (six (Apart (pos 5)) (λ n. tt) (λ n. tt) (λ n. tt) (λ n. tt) (λ n. absurd (n refl)) (λ n. tt))
+    (six (Apart (pos 6)) (λ n. tt) (λ n. tt) (λ n. tt) (λ n. tt) (λ n. tt) (λ n. absurd (n refl)))
+    c h d k

@@ -22,11 +22,11 @@ use Rattle.kinds.specs.Kinds.{within}
 use Rattle.equation.specs.Powers.{powersOf}
 use Rattle.equation.specs.Equation.{Term, equationOf}
 use Rattle.equation.proofs.Limits.{keeps, room, in-four-bytes}
-use Rattle.datum.specs.Page.{Page, Family, shift, geoid, each}
+use Rattle.datum.specs.Page.{Page, Family, each}
 use Rattle.datum.specs.Point.{pages, fromCentre, inArea}
 use Rattle.datum.specs.Cyprus.{cyprus}
 use Rattle.datum.specs.Inside.{frameOf, TableFits, AllFit, Close}
-use Rattle.datum.proofs.Families.{three}
+use Rattle.datum.proofs.Families.{each-by}
 
 -- ---- the test
 -- the farthest from the centre, in ms, and in hundred-millionths
@@ -126,11 +126,5 @@ module _ (page : Page) (latitude longitude : ℤ) (inside : inArea page latitude
       fits = small (equationOf scale table (powersOf scale u 10) (powersOf scale v 10)) (in-four-bytes u v u-size v-size scale table k (lit< tt));
     }
 
-    by-family : (tables : Family (List Term)) → T (all-keep (most-u page) (most-v page) tables) → AllFit tables (powersOf scale u 10) (powersOf scale v 10)
-    by-family (shift dLat dLon dH) k =
-        let t = three (keeps scale (most-u page) (most-v page) dLat) (keeps scale (most-u page) (most-v page) dLon) (keeps scale (most-u page) (most-v page) dH) k in
-        (works dLat (t .0), works dLon (t .1), works dH (t .2))
-    by-family (geoid n) k = works n k
-
     pub work : AllFit (page .equations) (powersOf scale u 10) (powersOf scale v 10)
-    work = by-family (page .equations) (last page h .1)
+    work = each-by (keeps scale (most-u page) (most-v page)) works (page .equations) (last page h .1)

@@ -1,11 +1,12 @@
 -- Document 01, 'The working rule', last paragraph: the exact values of a point; and demand 3, how near the answer is to them.
 use mathlib.Core.List.{List, [], _∷_}
-use Prim.Native.Nat.{ℕ, _-_}
-use lib.IntN.{ℤ, pos, natAbs, _-ℤ_, _*ℤ_}
+use Prim.Native.Nat.{ℕ}
+use lib.IntN.{ℤ, pos, _-ℤ_, _*ℤ_}
 use lib.ListN.{getD}
 use Rattle.equation.specs.Equation.{Term}
 use Rattle.equation.specs.Exact.{Fraction, _over_, exactOf, Within}
-use Rattle.datum.specs.Page.{Page, Family, shift, geoid}
+use Rattle.datum.specs.Page.{Page, Family, shift, geoid, OfShift, OfGeoid}
+use Rattle.datum.specs.Point.{row}
 
 -- ---- the exact values
 -- exact U is the tabled K times the latitude difference in ms, over 360,000,000,000,000; exact V likewise
@@ -24,15 +25,6 @@ exact page latitude longitude =
     (exactFrom (pos (page .k)) (pos (page .longitude)) longitude)
 
 -- ---- how near
--- three that are a shift's, and one that is a geoid height; of the other family, nothing holds
-abbrev pub OfShift : {A : Type 0} → Family A → (A → A → A → Type 0) → Type 0
-OfShift (shift a b c) holds = holds a b c
-OfShift (geoid n) holds = ⊥
-
-abbrev pub OfGeoid : {A : Type 0} → Family A → (A → Type 0) → Type 0
-OfGeoid (shift a b c) holds = ⊥
-OfGeoid (geoid n) holds = holds n
-
 -- each value is within its bound of its exact value; bounds are in nths of a unit
 abbrev pub AllWithin : ℕ → Family ℕ → Family Fraction → Family ℤ → Type 0
 AllWithin n (shift h i j) exacts values =
@@ -56,4 +48,4 @@ bounds =
     ∷ []
 
 abbrev pub boundsOf : ℤ → Family ℕ
-boundsOf code = getD bounds (natAbs code - 1) (geoid 0)
+boundsOf code = getD bounds (row code) (geoid 0)

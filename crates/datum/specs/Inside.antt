@@ -11,7 +11,7 @@ use Rattle.kinds.specs.Answer.{Answer, gives, refused, provided, numberOf}
 use Rattle.kinds.specs.Kinds.{within, isLatitude, isLongitude}
 use Rattle.equation.specs.Equation.{Term, equationOf}
 use Rattle.equation.specs.Room.{Room}
-use Rattle.datum.specs.Page.{Page, Family, shift, geoid}
+use Rattle.datum.specs.Page.{Page, Family, Each}
 use Rattle.datum.specs.Cyprus.{cyprus}
 use Rattle.datum.specs.Minna.{minna}
 use Rattle.datum.specs.Alaska.{alaska}
@@ -76,8 +76,7 @@ pub record TableFits (table : List Term) (pu pv : List ℤ) : Type 0 where
 
 -- of all tables of a datum
 abbrev pub AllFit : Family (List Term) → List ℤ → List ℤ → Type 0
-AllFit (shift dLat dLon dH) pu pv = TableFits dLat pu pv × TableFits dLon pu pv × TableFits dH pu pv
-AllFit (geoid n) pu pv = TableFits n pu pv
+AllFit tables pu pv = Each (λ table. TableFits table pu pv) tables
 
 -- of a frame: K and the centre are so small that no distance from the centre is too large
 pub record Close (frame : Frame) : Type 0 where

@@ -24,6 +24,25 @@ abbrev pub each : {A : Type 0} → (A → Bool) → Family A → Bool
 each test (shift a b c) = test a && (test b && test c)
 each test (geoid n) = test n
 
+-- that something holds of each
+abbrev pub Each : {A : Type 0} → (A → Type 0) → Family A → Type 0
+Each holds (shift a b c) = holds a × holds b × holds c
+Each holds (geoid n) = holds n
+
+-- that it is a shift of which something holds, or a geoid height of which something holds
+abbrev pub OfShift : {A : Type 0} → Family A → (A → A → A → Type 0) → Type 0
+OfShift (shift a b c) holds = holds a b c
+OfShift (geoid n) holds = ⊥
+
+abbrev pub OfGeoid : {A : Type 0} → Family A → (A → Type 0) → Type 0
+OfGeoid (shift a b c) holds = ⊥
+OfGeoid (geoid n) holds = holds n
+
+-- that two are of one family, and something holds place by place
+abbrev pub Paired : {A B : Type 0} → (A → B → Type 0) → Family A → Family B → Type 0
+Paired holds (shift a b c) other = OfShift other (λ d e f. holds a d × holds b e × holds c f)
+Paired holds (geoid a) other = OfGeoid other (λ b. holds a b)
+
 -- the centre and the ends of the area in ms, K in hundred-millionths, and the equations
 pub record Page : Type 0 where
   pub latitude : ℕ

@@ -1,7 +1,7 @@
 -- Document 01, 'The six areas', 'The working rule' and 'Refusal numbers': the answer of a point.
 use mathlib.Core.Bool.{Bool, _&&_}
 use mathlib.Core.List.{List, [], _∷_}
-use Prim.Native.Nat.{_-_}
+use Prim.Native.Nat.{ℕ, _-_}
 use lib.IntN.{ℤ, pos, natAbs, _-ℤ_, _*ℤ_}
 use lib.ListN.{getD}
 use Rattle.whole.specs.Round.{roundDiv, scale}
@@ -21,12 +21,16 @@ use Rattle.datum.specs.Nahrwan.{nahrwan}
 abbrev pub isCode : ℤ → Bool
 isCode code = within (pos 1) (pos 6) code
 
--- their pages, in order; asked only of a number that is a code
+-- the row of a code in a list by codes; asked only of a number that is one
+abbrev pub row : ℤ → ℕ
+row code = natAbs code - 1
+
+-- their pages
 abbrev pub pages : List Page
 pages = cyprus ∷ minna ∷ alaska ∷ qatar ∷ kandawala ∷ nahrwan ∷ []
 
 abbrev pub pageOf : ℤ → Page
-pageOf code = getD pages (natAbs code - 1) cyprus
+pageOf code = getD pages (row code) cyprus
 
 -- the area: both ends belong to it
 abbrev pub inArea : Page → ℤ → ℤ → Bool

@@ -5,8 +5,8 @@ use Prim.Native.Nat.{ℕ, _+_, _-_}
 use lib.Dec.{eqb, ltb}
 use lib.IntN.{pos}
 use lib.ListN.{length}
-use Rattle.equation.specs.Equation.{Term, term}
-use Rattle.datum.specs.Page.{Page, Family, shift, geoid}
+use Rattle.equation.specs.Equation.{Term, term, amongTen}
+use Rattle.datum.specs.Page.{Page, Family, shift, geoid, Paired}
 use Rattle.datum.specs.Point.{inArea}
 
 -- the terms of each equation, with the constant
@@ -26,20 +26,14 @@ inAll (page ∷ rest) = total (counted (page .equations)) + inAll rest
 abbrev pub before : Term → Term → Bool
 before (term c i j) (term d k l) = ltb j l || (eqb j l && ltb i k)
 
-abbrev belowTen : Term → Bool
-belowTen (term c i j) = ltb i 10 && ltb j 10
-
 abbrev pub stands : List Term → Bool
 stands [] = true
-stands (t ∷ []) = belowTen t
-stands (s ∷ t ∷ ts) = belowTen s && (before s t && stands (t ∷ ts))
+stands (t ∷ []) = amongTen t
+stands (s ∷ t ∷ ts) = amongTen s && (before s t && stands (t ∷ ts))
 
 -- the same terms in another order
 abbrev pub Reordered : Family (List Term) → Family (List Term) → Type 0
-Reordered (shift a b c) (shift d e f) = Perm a d × Perm b e × Perm c f
-Reordered (geoid m) (geoid n) = Perm m n
-Reordered (shift a b c) (geoid n) = ⊥
-Reordered (geoid n) (shift a b c) = ⊥
+Reordered = Paired Perm
 
 -- two corners of the area are in it, and what is 1 ms outside an end is not
 abbrev pub ends : Page → Bool

@@ -10,7 +10,7 @@ use lib.ListN.{length, getD}
 use Rattle.whole.specs.Round.{roundDiv, scale}
 use Rattle.equation.specs.Powers.{power, powersOf}
 use Rattle.equation.specs.Equation.{Term, term, sum, equationOf}
-use Rattle.equation.specs.Exact.{_over_, _to-the_, exactOf, Within}
+use Rattle.equation.specs.Exact.{_over_, _to-the_, exactOf, Within, Beyond}
 use Rattle.equation.proofs.Steps.{power-next, length-powers, powers-at}
 use Rattle.equation.proofs.Sums.{sum-any-order}
 
@@ -49,9 +49,10 @@ pub record Exact : Type 0 where
   pub polynomial : Within 0 1 (exactOf (term (pos 6) 2 1 ∷ term (pos 1) 0 0 ∷ []) (pos 1 over 2) (pos 2 over 3)) (pos 2)
   -- 'a zeroth power being 1', of zero too
   pub zeroth : Within 0 1 (exactOf (term (pos 5) 0 0 ∷ []) (pos 0 over 7) (negℤ (pos 3) over 2)) (pos 5)
-  -- 7 and -2 are within 9 / 2 of 5 / 2, and 8 and -3 are not
+  -- 7 and -2 are within 9 / 2 of 5 / 2; 8 and -3 are not, and are farther
   pub within : Within 9 2 (pos 5 over 2) (pos 7) × Within 9 2 (pos 5 over 2) (negℤ (pos 2))
   pub not-within : (Within 9 2 (pos 5 over 2) (pos 8) → ⊥) × (Within 9 2 (pos 5 over 2) (negℤ (pos 3)) → ⊥)
+  pub beyond : Beyond 9 2 (pos 5 over 2) (pos 8) × Beyond 9 2 (pos 5 over 2) (negℤ (pos 3))
 
 pub exact : Exact
 unfolding exactOf _to-the_
@@ -60,4 +61,5 @@ exact = record {
   zeroth = record { proper = lit< tt; near = lit≤ tt };
   within = (record { proper = lit< tt; near = lit≤ tt }, record { proper = lit< tt; near = lit≤ tt });
   not-within = ((λ w. absurd (le→leb _ _ (w .near))), (λ w. absurd (le→leb _ _ (w .near))));
+  beyond = (record { proper = lit< tt; far = lit< tt }, record { proper = lit< tt; far = lit< tt });
 }

@@ -1,40 +1,41 @@
 -- How far the answer of an equation can be from its exact value: one computed test, and the one theorem about it, over any
 -- table, any limits of u and v, any scale, any last divisor and any bound. Assumes nothing.
 --
--- Errors on the way are counted in kths of one at the scale and rounded up, so the larger k, the less is lost in counting.
+-- An error on the way is counted as a whole number over `fine`, and the next larger is taken: the larger `fine` is, the less
+-- is lost in counting.
 use mathlib.Core.Path.{sym, ap, _∙_, subst}
-use mathlib.Core.Bool.{Bool, true, _&&_}
+use mathlib.Core.Bool.{Bool, true, false, _&&_}
 use mathlib.Core.List.{List, [], _∷_}
 use Prim.Native.Nat.{ℕ, zero, suc, _+_, _-_, _*_, _/_, _≤_, _<_}
-use native.Mathlib.Nat.{le-of-lt, lt-mul-div-succ, mul-pos}
-use lib.Dec.{T, leb, leb→le, ltb, ltb→lt, lit<}
+use native.Mathlib.Nat.{le-trans, le-of-lt, lt-mul-div-succ, mul-pos, mul-le-mul-left, mul-le-mul-right}
+use lib.Dec.{T, leb, leb→le, le→leb, ltb, ltb→lt, lit<}
 use lib.IntN.{ℤ, pos, natAbs, _*ℤ_, *ℤ-comm}
 use mir.Facts.{and-yes}
 use Rattle.whole.specs.Round.{roundDiv}
 use Rattle.whole.proofs.Rounding.{round-exact}
 use Rattle.equation.specs.Powers.{power, powersOf}
-use Rattle.equation.specs.Equation.{Term, term, product, sum}
+use Rattle.equation.specs.Equation.{Term, term, amongTen, product, sum}
 use Rattle.equation.specs.Exact.{Fraction, _over_, _times_, _to-the_, exactOf, Within}
 use Rattle.equation.proofs.Steps.{limit, power-size, powers-at}
 use Rattle.equation.proofs.Fractions.{exact-proper}
 use Rattle.equation.proofs.Nearness.{Near, near-zero, near-one, near-one-times, near-times-one, near-quotient, near-product, near-sum, near-answer}
 
 -- ---- the test
--- each power is among the ten
+-- each term's powers are among the ten
 abbrev in-ten : List Term → Bool
 in-ten [] = true
-in-ten (term c i j ∷ ts) = (ltb i 10 && ltb j 10) && in-ten ts
+in-ten (t ∷ ts) = amongTen t && in-ten ts
 
-module _ (s k : ℕ) where
+module _ (s fine : ℕ) where
   -- of a rounded product, by its factors' errors e and d and sizes m and n
   abbrev product-error : ℕ → ℕ → ℕ → ℕ → ℕ
-  product-error e d m n = (k * k * s + 2 * (k * (e * n + m * d) + e * d)) / (2 * k * s) + 1
+  product-error e d m n = (fine * fine * s + 2 * (fine * (e * n + m * d) + e * d)) / (2 * fine * s) + 1
 
   -- of the nth power of a rounded number whose size is at most m
   abbrev power-error : ℕ → ℕ → ℕ
   power-error m zero = 0
-  power-error m (suc zero) = k - k / 2
-  power-error m (suc (suc n)) = product-error (power-error m (suc n)) (k - k / 2) (limit s m (suc n)) m
+  power-error m (suc zero) = fine - fine / 2
+  power-error m (suc (suc n)) = product-error (power-error m (suc n)) (fine - fine / 2) (limit s m (suc n)) m
 
   -- of a term's product; one with a zeroth power is not rounded again
   abbrev term-error : ℕ → ℕ → ℕ → ℕ → ℕ
@@ -49,74 +50,91 @@ module _ (s k : ℕ) where
 
   -- no divisor is zero
   abbrev divisors : ℕ → ℕ → Bool
-  divisors d divisor = (ltb 0 s && ltb 0 k) && (ltb 0 d && ltb 0 divisor)
+  divisors d divisor = (ltb 0 s && ltb 0 fine) && (ltb 0 d && ltb 0 divisor)
 
   -- half a unit for the last rounding and the error of the sum are at most h nths of a unit
   abbrev at-most : ℕ → ℕ → ℕ → ℕ → ℕ → List Term → Bool
-  at-most divisor mu mv h n ts = leb (n * (k * divisor + 2 * sum-error mu mv ts)) (2 * divisor * h * k)
+  at-most divisor mu mv h n ts = leb (n * (fine * divisor + 2 * sum-error mu mv ts)) (2 * divisor * h * fine)
 
   abbrev pub bounded : ℕ → ℕ → ℕ → ℕ → ℕ → ℕ → List Term → Bool
   bounded d divisor mu mv h n ts = divisors d divisor && (in-ten ts && at-most divisor mu mv h n ts)
+
+-- what passes with a bound passes with a larger one
+pub bounded-wider : (s fine d divisor mu mv n : ℕ) {g h : ℕ} (ts : List Term) → g ≤ h → T (bounded s fine d divisor mu mv g n ts) → T (bounded s fine d divisor mu mv h n ts)
+bounded-wider s fine d divisor mu mv n {g} {h} ts l test =
+    let t = and-yes (divisors s fine d divisor) (in-ten ts && at-most s fine divisor mu mv g n ts) test in
+    let r = and-yes (in-ten ts) (at-most s fine divisor mu mv g n ts) (t .1) in
+    joined (divisors s fine d divisor) (in-ten ts && at-most s fine divisor mu mv h n ts) (t .0)
+    (joined (in-ten ts) (at-most s fine divisor mu mv h n ts) (r .0)
+    (le→leb error (2 * divisor * h * fine)
+    (le-trans (leb→le error (2 * divisor * g * fine) (r .1)) (mul-le-mul-right fine (mul-le-mul-left (2 * divisor) l)))))
+  where
+    error : ℕ
+    error = n * (fine * divisor + 2 * sum-error s fine mu mv ts)
+
+    joined : (a b : Bool) → T a → T b → T (a && b)
+    joined true b h k = k
+    joined false b h k = absurd h
 
 -- ---- what it shows
 above : (n : ℕ) {m : ℕ} → 0 < m → n ≤ m * (n / m + 1)
 above n h = le-of-lt (lt-mul-div-succ n h)
 
-module _ {s k : ℕ} (hs : 0 < s) (hk : 0 < k) where
+module _ {s fine : ℕ} (hs : 0 < s) (hfine : 0 < fine) where
   -- a product of numbers of known sizes
-  multiplied : {x y : ℤ} {f g : Fraction} {e d : ℕ} (m n : ℕ) → natAbs x ≤ m → natAbs y ≤ n → Near s k x f e → Near s k y g d → Near s k (roundDiv (x *ℤ y) s) (f times g) (product-error s k e d m n)
+  multiplied : {x y : ℤ} {f g : Fraction} {e d : ℕ} (m n : ℕ) → natAbs x ≤ m → natAbs y ≤ n → Near s fine x f e → Near s fine y g d → Near s fine (roundDiv (x *ℤ y) s) (f times g) (product-error s fine e d m n)
   multiplied {e = e} {d = d} m n hm hn hx hy =
-      near-product hs hk m n (product-error s k e d m n) hm hn (above (k * k * s + 2 * (k * (e * n + m * d) + e * d)) (mul-pos (mul-pos (lit< tt) hk) hs)) hx hy
+      near-product hs hfine m n (product-error s fine e d m n) hm hn (above (fine * fine * s + 2 * (fine * (e * n + m * d) + e * d)) (mul-pos (mul-pos (lit< tt) hfine) hs)) hx hy
 
   -- a power
-  raised : {u : ℤ} {f : Fraction} {m : ℕ} → natAbs u ≤ m → Near s k u f (k - k / 2) → (n : ℕ) → Near s k (power s u n) (f to-the n) (power-error s k m n)
+  raised : {u : ℤ} {f : Fraction} {m : ℕ} → natAbs u ≤ m → Near s fine u f (fine - fine / 2) → (n : ℕ) → Near s fine (power s u n) (f to-the n) (power-error s fine m n)
   unfolding power _to-the_
   raised h near zero = near-one
   raised h near (suc zero) = near-one-times near
   raised {u} {f} {m} h near (suc (suc n)) = multiplied (limit s m (suc n)) m (power-size s hs u h (suc n)) h (raised h near (suc n)) near
 
-  module _ {mu mv : ℕ} {u v : ℤ} {f g : Fraction} (hu : natAbs u ≤ mu) (hv : natAbs v ≤ mv) (near-u : Near s k u f (k - k / 2)) (near-v : Near s k v g (k - k / 2)) where
+  module _ {mu mv : ℕ} {u v : ℤ} {f g : Fraction} (hu : natAbs u ≤ mu) (hv : natAbs v ≤ mv) (near-u : Near s fine u f (fine - fine / 2)) (near-v : Near s fine v g (fine - fine / 2)) where
     -- a term's product
-    term-near : (i j : ℕ) → Near s k (roundDiv (power s u i *ℤ power s v j) s) (f to-the i times g to-the j) (term-error s k mu mv i j)
+    term-near : (i j : ℕ) → Near s fine (roundDiv (power s u i *ℤ power s v j) s) (f to-the i times g to-the j) (term-error s fine mu mv i j)
     unfolding power _to-the_
     term-near zero j =
-        subst (λ (x : ℤ). Near s k x (f to-the 0 times g to-the j) (power-error s k mv j)) (sym (ap (λ (x : ℤ). roundDiv x s) (*ℤ-comm (pos s) (power s v j)) ∙ round-exact (power s v j) hs))
+        subst (λ (x : ℤ). Near s fine x (f to-the 0 times g to-the j) (power-error s fine mv j)) (sym (ap (λ (x : ℤ). roundDiv x s) (*ℤ-comm (pos s) (power s v j)) ∙ round-exact (power s v j) hs))
         (near-one-times (raised hv near-v j))
     term-near (suc i) zero =
-        subst (λ (x : ℤ). Near s k x (f to-the (suc i) times g to-the 0) (power-error s k mu (suc i))) (sym (round-exact (power s u (suc i)) hs))
+        subst (λ (x : ℤ). Near s fine x (f to-the (suc i) times g to-the 0) (power-error s fine mu (suc i))) (sym (round-exact (power s u (suc i)) hs))
         (near-times-one (raised hu near-u (suc i)))
     term-near (suc i) (suc j) =
         multiplied (limit s mu (suc i)) (limit s mv (suc j)) (power-size s hs u hu (suc i)) (power-size s hs v hv (suc j)) (raised hu near-u (suc i)) (raised hv near-v (suc j))
 
     -- the same of the powers as they stand in their lists
-    product-near : (i j : ℕ) → i < 10 → j < 10 → Near s k (product s i j (powersOf s u 10) (powersOf s v 10)) (f to-the i times g to-the j) (term-error s k mu mv i j)
+    product-near : (i j : ℕ) → i < 10 → j < 10 → Near s fine (product s i j (powersOf s u 10) (powersOf s v 10)) (f to-the i times g to-the j) (term-error s fine mu mv i j)
     product-near i j hi hj =
-        subst (λ (x : ℤ). Near s k (roundDiv x s) (f to-the i times g to-the j) (term-error s k mu mv i j))
+        subst (λ (x : ℤ). Near s fine (roundDiv x s) (f to-the i times g to-the j) (term-error s fine mu mv i j))
         (λ n. sym (powers-at s u (pos 0) 10 i hi) n *ℤ sym (powers-at s v (pos 0) 10 j hj) n) (term-near i j)
 
     -- the sum
-    sum-near : (ts : List Term) → T (in-ten ts) → Near s k (sum s ts (powersOf s u 10) (powersOf s v 10)) (exactOf ts f g) (sum-error s k mu mv ts)
+    sum-near : (ts : List Term) → T (in-ten ts) → Near s fine (sum s ts (powersOf s u 10) (powersOf s v 10)) (exactOf ts f g) (sum-error s fine mu mv ts)
     unfolding sum exactOf
     sum-near [] h = near-zero
     sum-near (term c i j ∷ ts) h =
-        let a = and-yes (ltb i 10 && ltb j 10) (in-ten ts) h in
+        let a = and-yes (amongTen (term c i j)) (in-ten ts) h in
         let b = and-yes (ltb i 10) (ltb j 10) (a .0) in
         near-sum c (product-near i j (ltb→lt i 10 (b .0)) (ltb→lt j 10 (b .1))) (sum-near ts (a .1))
 
 -- the answer, of u = a / d and v = b / d rounded: it is within h nths of a unit of the exact value, which the scale over the
 -- last divisor carries into the answer's unit
-pub answer-near : (s k d divisor mu mv h n : ℕ) (ts : List Term) (a b : ℤ) → natAbs (roundDiv a d) ≤ mu → natAbs (roundDiv b d) ≤ mv → T (bounded s k d divisor mu mv h n ts)
+pub answer-near : (s fine d divisor mu mv h n : ℕ) (ts : List Term) (a b : ℤ) → natAbs (roundDiv a d) ≤ mu → natAbs (roundDiv b d) ≤ mv → T (bounded s fine d divisor mu mv h n ts)
     → Within h n (exactOf ts (a over (d * s)) (b over (d * s)) times (pos s over divisor)) (roundDiv (sum s ts (powersOf s (roundDiv a d) 10) (powersOf s (roundDiv b d) 10)) divisor)
-answer-near s k d divisor mu mv h n ts a b hu hv test =
-    let t = and-yes (divisors s k d divisor) (in-ten ts && at-most s k divisor mu mv h n ts) test in
-    let r = and-yes (in-ten ts) (at-most s k divisor mu mv h n ts) (t .1) in
-    let p = and-yes (ltb 0 s && ltb 0 k) (ltb 0 d && ltb 0 divisor) (t .0) in
-    let q = and-yes (ltb 0 s) (ltb 0 k) (p .0) in
+answer-near s fine d divisor mu mv h n ts a b hu hv test =
+    let t = and-yes (divisors s fine d divisor) (in-ten ts && at-most s fine divisor mu mv h n ts) test in
+    let r = and-yes (in-ten ts) (at-most s fine divisor mu mv h n ts) (t .1) in
+    let p = and-yes (ltb 0 s && ltb 0 fine) (ltb 0 d && ltb 0 divisor) (t .0) in
+    let q = and-yes (ltb 0 s) (ltb 0 fine) (p .0) in
     let o = and-yes (ltb 0 d) (ltb 0 divisor) (p .1) in
     let hs = ltb→lt 0 s (q .0) in
-    let hk = ltb→lt 0 k (q .1) in
+    let hfine = ltb→lt 0 fine (q .1) in
     let hd = ltb→lt 0 d (o .0) in
     let proper = mul-pos hd hs in
-    near-answer hk h n (ltb→lt 0 divisor (o .1)) (exact-proper (a over (d * s)) (b over (d * s)) proper proper ts)
-    (leb→le (n * (k * divisor + 2 * sum-error s k mu mv ts)) (2 * divisor * h * k) (r .1))
-    (sum-near hs hk hu hv (near-quotient a hd) (near-quotient b hd) ts (r .0))
+    near-answer hfine h n (ltb→lt 0 divisor (o .1)) (exact-proper (a over (d * s)) (b over (d * s)) proper proper ts)
+    (leb→le (n * (fine * divisor + 2 * sum-error s fine mu mv ts)) (2 * divisor * h * fine) (r .1))
+    (sum-near hs hfine hu hv (near-quotient a hd) (near-quotient b hd) ts (r .0))

@@ -7,7 +7,7 @@ use native.Mathlib.Nat.{mul-pos, mul-le-mul-left, mul-le-mul-right, le-of-mul-le
 use native.Mathlib.Omega.{arith}
 use lib.Dec.{T, leb, leb→le, lit<}
 use lib.Pow.{pow-add}
-use lib.IntN.{ℤ, pos, natAbs, _+ℤ_, _-ℤ_, _*ℤ_, pow, one, zero-*ℤ, *ℤ-comm}
+use lib.IntN.{ℤ, pos, natAbs, _+ℤ_, _-ℤ_, _*ℤ_, pow, one, zero-*ℤ, *ℤ-comm, +ℤ-invr}
 use mir.Facts.{and-yes}
 use Rattle.whole.proofs.Ring.{by-diff, pos-diff, diff-cong, ring₀, one-*ℤ, -ℤ-*ℤ}
 use Rattle.whole.proofs.Sizes.{abs--, abs-*}
@@ -22,14 +22,14 @@ pub times-one : (f : Fraction) → f times whole (pos 1) ≡ f
 times-one f = λ i. (*ℤ-comm (f .top) (pos 1) ∙ one-*ℤ (f .top)) i over mul-one (f .bottom) i
 
 -- ---- two fractions that are the same
-abbrev pub Same : Fraction → Fraction → Type 0
+abbrev Same : Fraction → Fraction → Type 0
 Same f g = f .top *ℤ pos (g .bottom) ≡ g .top *ℤ pos (f .bottom)
 
--- what is within h / k of the one is so of the other
-pub within-same : {h k : ℕ} {x : ℤ} (f g : Fraction) → Same f g → 0 < f .bottom → Within h k g x → Within h k f x
-within-same {h} {k} {x} f g e p w = record {
+-- what is within h / n of the one is so of the other
+pub within-same : {h n : ℕ} {x : ℤ} (f g : Fraction) → Same f g → 0 < f .bottom → Within h n g x → Within h n f x
+within-same {h} {n} {x} f g e p w = record {
   proper = p;
-  near = le-of-mul-le-mul-right (omega (arith, mul-le-mul-right (f .bottom) (w .near), ap (λ (n : ℕ). k * n) apart)) (w .proper);
+  near = le-of-mul-le-mul-right (omega (arith, mul-le-mul-right (f .bottom) (w .near), ap (λ (m : ℕ). n * m) apart)) (w .proper);
 }
   where
     swapped : (a b : ℕ) → x *ℤ pos a *ℤ pos b ≡ x *ℤ pos b *ℤ pos a
@@ -55,18 +55,18 @@ same-times f s = apart (f .top) (f .bottom)
     apart t b = rw (by-diff t, pos-diff b, pos-diff s, pos-diff (b * s)) (simp ring₀ (diff-cong _ _ _ _ (omega arith)))
 
 -- a wider bound
-pub within-wider : {h k : ℕ} {f : Fraction} {x : ℤ} (h′ k′ : ℕ) → 0 < k → k′ * h ≤ h′ * k → Within h k f x → Within h′ k′ f x
-within-wider {h} {k} {f} {x} h′ k′ p t w = record {
+pub within-wider : {h n : ℕ} {f : Fraction} {x : ℤ} (o m : ℕ) → 0 < n → m * h ≤ o * n → Within h n f x → Within o m f x
+within-wider {h} {n} {f} {x} o m p t w = record {
   proper = w .proper;
-  near = le-of-mul-le-mul-left {k = k} (omega (arith, mul-le-mul-left k′ (w .near), mul-le-mul-right (f .bottom) t)) p;
+  near = le-of-mul-le-mul-left {k = n} (omega (arith, mul-le-mul-left m (w .near), mul-le-mul-right (f .bottom) t)) p;
 }
 
 -- a number near two fractions: they are near each other
-pub within-both : {h k : ℕ} {x : ℤ} (f g : Fraction) → Within h k f x → Within h k g x → k * natAbs (f .top *ℤ pos (g .bottom) -ℤ g .top *ℤ pos (f .bottom)) ≤ 2 * h * (f .bottom * g .bottom)
-within-both {h} {k} {x} f g v w =
+pub within-both : {h n : ℕ} {x : ℤ} (f g : Fraction) → Within h n f x → Within h n g x → n * natAbs (f .top *ℤ pos (g .bottom) -ℤ g .top *ℤ pos (f .bottom)) ≤ 2 * h * (f .bottom * g .bottom)
+within-both {h} {n} {x} f g v w =
     omega (
       arith,
-      mul-le-mul-left k (apart (f .top) (g .top) (f .bottom) (g .bottom)),
+      mul-le-mul-left n (apart (f .top) (g .top) (f .bottom) (g .bottom)),
       mul-le-mul-right (g .bottom) (v .near),
       mul-le-mul-right (f .bottom) (w .near),
     )
@@ -85,7 +85,7 @@ within-both {h} {k} {x} f g v w =
         )
 
 -- ---- no bottom is zero
-pub power-proper : (f : Fraction) → 0 < f .bottom → (n : ℕ) → 0 < (f to-the n) .bottom
+power-proper : (f : Fraction) → 0 < f .bottom → (n : ℕ) → 0 < (f to-the n) .bottom
 unfolding _to-the_
 power-proper f h zero = lit< tt
 power-proper f h (suc n) = mul-pos (power-proper f h n) h
@@ -129,12 +129,19 @@ summed c t x y d m r e h k = left ∙ ap (λ (z : ℤ). c *ℤ t *ℤ pos m *ℤ
     right : c *ℤ t *ℤ pos m *ℤ pos (d * r) +ℤ y *ℤ pos m *ℤ pos d ≡ (c *ℤ t *ℤ pos r +ℤ y) *ℤ pos (1 * d * m)
     right = rw (by-diff c, by-diff t, by-diff y, pos-diff m, pos-diff r, pos-diff (1 * d * m), pos-diff d, pos-diff (d * r)) (simp ring₀ (diff-cong _ _ _ _ (omega arith)))
 
-pub over-common : (D n : ℕ) (a b : ℤ) (ts : List Term) → T (reaches n ts) → Same (exactOf ts (a over D) (b over D)) (common D n a b ts over (D ^ n))
+crosswise : (D n : ℕ) (a b : ℤ) (ts : List Term) → T (reaches n ts) → Same (exactOf ts (a over D) (b over D)) (common D n a b ts over (D ^ n))
 unfolding exactOf
-over-common D n a b [] h = zero-*ℤ (pos (D ^ n)) ∙ sym (zero-*ℤ (pos 1))
-over-common D n a b (term c i j ∷ ts) h =
+crosswise D n a b [] h = zero-*ℤ (pos (D ^ n)) ∙ sym (zero-*ℤ (pos 1))
+crosswise D n a b (term c i j ∷ ts) h =
     let p = and-yes (leb (i + j) n) (reaches n ts) h in
     rw (power-is a D i, power-is b D j)
     (summed c (pow a i *ℤ pow b j) (exactOf ts (a over D) (b over D) .top) (common D n a b ts)
     (D ^ i * D ^ j) (exactOf ts (a over D) (b over D) .bottom) (D ^ (n - (i + j))) (D ^ n)
-    (filled D n i j (leb→le (i + j) n (p .0))) (over-common D n a b ts (p .1)))
+    (filled D n i j (leb→le (i + j) n (p .0))) (crosswise D n a b ts (p .1)))
+
+-- times that power of D it is that whole number
+pub over-common : (D n : ℕ) (a b : ℤ) (ts : List Term) → 0 < D → T (reaches n ts) → Within 0 1 (exactOf ts (a over D) (b over D) times whole (pos (D ^ n))) (common D n a b ts)
+over-common D n a b ts h t = record {
+  proper = mul-pos (exact-proper (a over D) (b over D) h h ts) (lit< tt);
+  near = rw (mul-one (exactOf ts (a over D) (b over D) .bottom), crosswise D n a b ts t, +ℤ-invr (common D n a b ts *ℤ pos (exactOf ts (a over D) (b over D) .bottom))) (omega arith);
+}

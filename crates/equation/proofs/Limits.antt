@@ -12,7 +12,7 @@ use Rattle.whole.proofs.Sizes.{abs-*-≤, abs-round}
 use Rattle.whole.proofs.Rounding.{nearest-mono}
 use Rattle.whole.proofs.Products.{product-size}
 use Rattle.equation.specs.Powers.{powersOf}
-use Rattle.equation.specs.Equation.{Term, term, product, equationOf}
+use Rattle.equation.specs.Equation.{Term, term, amongTen, product, equationOf}
 use Rattle.equation.specs.Room.{Fitting, Each, sizes, Room}
 use Rattle.equation.proofs.Steps.{limit, power-size, powers-at}
 use Rattle.equation.proofs.Sums.{sum-size}
@@ -20,7 +20,7 @@ use Rattle.equation.proofs.Sums.{sum-size}
 -- ---- the test, of the limits mu of u and mv of v
 -- a term's powers are among the ten, and 64 bits hold what is divided
 abbrev term-keeps : ℕ → ℕ → Term → Bool
-term-keeps mu mv (term c i j) = ltb i 10 && (ltb j 10 && ltb (limit scale mu i * limit scale mv j) 9223372036854775808)
+term-keeps mu mv (term c i j) = amongTen (term c i j) && ltb (limit scale mu i * limit scale mv j) 9223372036854775808
 
 abbrev terms-keep : ℕ → ℕ → List Term → Bool
 terms-keep mu mv [] = true
@@ -51,14 +51,14 @@ module _ {mu mv : ℕ} (u v : ℤ) (hu : natAbs u ≤ mu) (hv : natAbs v ≤ mv)
 
   term-fits : (t : Term) → T (term-keeps mu mv t) → Fitting t pu pv
   term-fits (term c i j) h =
-      let a = and-yes (ltb i 10) (ltb j 10 && ltb (limit scale mu i * limit scale mv j) 9223372036854775808) h in
-      let b = and-yes (ltb j 10) (ltb (limit scale mu i * limit scale mv j) 9223372036854775808) (a .1) in
-      let i-low = ltb→lt i 10 (a .0) in
-      let j-low = ltb→lt j 10 (b .0) in (
+      let a = and-yes (amongTen (term c i j)) (ltb (limit scale mu i * limit scale mv j) 9223372036854775808) h in
+      let b = and-yes (ltb i 10) (ltb j 10) (a .0) in
+      let i-low = ltb→lt i 10 (b .0) in
+      let j-low = ltb→lt j 10 (b .1) in (
         i-low,
         j-low,
         lt-of-le-of-lt (abs-*-≤ (getD pu i (pos 0)) (getD pv j (pos 0)) (at-u i i-low) (at-v j j-low))
-            (ltb→lt (limit scale mu i * limit scale mv j) 9223372036854775808 (b .1)),
+            (ltb→lt (limit scale mu i * limit scale mv j) 9223372036854775808 (a .1)),
       )
 
   size-reach : (c : ℤ) (i j : ℕ) → Fitting (term c i j) pu pv → natAbs c * natAbs (product scale i j pu pv) ≤ natAbs c * nearest (limit scale mu i * limit scale mv j) scale

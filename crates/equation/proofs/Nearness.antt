@@ -1,6 +1,6 @@
 -- How near a working number is to the fraction that it stands for, step by step of the working rule. Assumes nothing.
 --
--- At a scale s a whole number x stands for x / s. `Near s k x f e`: it is f, within e kths of one at the scale. Each law
+-- At a scale s a whole number x stands for x / s. `Near s fine x f e`: that is f, and x is off by at most e / fine. Each law
 -- below is a step of the rule, and says what the error is after it.
 use mathlib.Core.Path.{_≡_, sym, ap, _∙_, subst}
 use Prim.Native.Nat.{ℕ, _+_, _-_, _*_, _/_, _≤_, _<_}
@@ -14,8 +14,8 @@ use Rattle.whole.proofs.Rounding.{round-within}
 use Rattle.equation.specs.Exact.{Fraction, _over_, whole, _plus_, _times_, Within}
 use Rattle.equation.proofs.Fractions.{one-times, times-one}
 
-pub record Near (s k : ℕ) (x : ℤ) (f : Fraction) (e : ℕ) : Type 0 where
-  pub near : k * natAbs (x *ℤ pos (f .bottom) -ℤ f .top *ℤ pos s) ≤ e * f .bottom
+pub record Near (s fine : ℕ) (x : ℤ) (f : Fraction) (e : ℕ) : Type 0 where
+  pub near : fine * natAbs (x *ℤ pos (f .bottom) -ℤ f .top *ℤ pos s) ≤ e * f .bottom
 
 -- ---- how far apart, by what the parts are
 module _ (s : ℕ) where
@@ -106,26 +106,26 @@ module _ (s : ℕ) where
           (simp ring₀ (diff-cong _ _ _ _ (omega arith)))
 
 -- ---- the steps
-module _ {s k : ℕ} where
+module _ {s fine : ℕ} where
   -- ---- a sum of nothing, and the zeroth power
-  pub near-zero : Near s k (pos 0) (whole (pos 0)) 0
+  pub near-zero : Near s fine (pos 0) (whole (pos 0)) 0
   near-zero = record { near = rw (zero-*ℤ (pos s)) (omega arith) }
 
-  pub near-one : Near s k (pos s) (whole (pos 1)) 0
+  pub near-one : Near s fine (pos s) (whole (pos 1)) 0
   near-one = record { near = rw same (omega arith) }
     where
       same : natAbs (pos s *ℤ pos 1 -ℤ pos 1 *ℤ pos s) ≡ 0
       same = ap natAbs (ap (λ (z : ℤ). pos s *ℤ pos 1 -ℤ z) (*ℤ-comm (pos 1) (pos s)) ∙ +ℤ-invr (pos s *ℤ pos 1))
 
   -- 1 times a fraction, and a fraction times 1
-  pub near-one-times : {x : ℤ} {f : Fraction} {e : ℕ} → Near s k x f e → Near s k x (whole (pos 1) times f) e
-  near-one-times {x} {f} {e} h = subst (λ (g : Fraction). Near s k x g e) (sym (one-times f)) h
+  pub near-one-times : {x : ℤ} {f : Fraction} {e : ℕ} → Near s fine x f e → Near s fine x (whole (pos 1) times f) e
+  near-one-times {x} {f} {e} h = subst (λ (g : Fraction). Near s fine x g e) (sym (one-times f)) h
 
-  pub near-times-one : {x : ℤ} {f : Fraction} {e : ℕ} → Near s k x f e → Near s k x (f times whole (pos 1)) e
-  near-times-one {x} {f} {e} h = subst (λ (g : Fraction). Near s k x g e) (sym (times-one f)) h
+  pub near-times-one : {x : ℤ} {f : Fraction} {e : ℕ} → Near s fine x f e → Near s fine x (f times whole (pos 1)) e
+  near-times-one {x} {f} {e} h = subst (λ (g : Fraction). Near s fine x g e) (sym (times-one f)) h
 
   -- ---- a quotient a / d, rounded: half a part
-  pub near-quotient : (a : ℤ) {d : ℕ} → 0 < d → Near s k (roundDiv a d) (a over (d * s)) (k - k / 2)
+  pub near-quotient : (a : ℤ) {d : ℕ} → 0 < d → Near s fine (roundDiv a d) (a over (d * s)) (fine - fine / 2)
   near-quotient a {d} h = record { near = rw (apart (roundDiv a d)) (half (natAbs (roundDiv a d *ℤ pos d -ℤ a)) (round-within a h)) }
     where
       apart : (q : ℤ) → natAbs (q *ℤ pos (d * s) -ℤ a *ℤ pos s) ≡ natAbs (q *ℤ pos d -ℤ a) * s
@@ -134,17 +134,17 @@ module _ {s k : ℕ} where
           same : (q : ℤ) → q *ℤ pos (d * s) -ℤ a *ℤ pos s ≡ (q *ℤ pos d -ℤ a) *ℤ pos s
           same q = rw (by-diff q, by-diff a, pos-diff d, pos-diff s, pos-diff (d * s)) (simp ring₀ (diff-cong _ _ _ _ (omega arith)))
 
-      twice : k ≤ 2 * (k - k / 2)
+      twice : fine ≤ 2 * (fine - fine / 2)
       twice = omega arith
 
-      half : (n : ℕ) → 2 * n ≤ d → k * (n * s) ≤ (k - k / 2) * (d * s)
-      half n l = le-of-mul-le-mul-left {k = 2} (omega (arith, mul-le-mul-left (k * s) l, mul-le-mul-right (d * s) twice)) (omega arith)
+      half : (n : ℕ) → 2 * n ≤ d → fine * (n * s) ≤ (fine - fine / 2) * (d * s)
+      half n l = le-of-mul-le-mul-left {k = 2} (omega (arith, mul-le-mul-left (fine * s) l, mul-le-mul-right (d * s) twice)) (omega arith)
 
   -- ---- a product, divided by the scale and rounded
-  pub near-product : 0 < s → 0 < k → {x y : ℤ} {f g : Fraction} {e d : ℕ} (m n o : ℕ) → natAbs x ≤ m → natAbs y ≤ n
-      → k * k * s + 2 * (k * (e * n + m * d) + e * d) ≤ 2 * k * s * o
-      → Near s k x f e → Near s k y g d → Near s k (roundDiv (x *ℤ y) s) (f times g) o
-  near-product hs hk {x} {y} {f} {g} {e} {d} m n o hm hn test hx hy = record {
+  pub near-product : 0 < s → 0 < fine → {x y : ℤ} {f g : Fraction} {e d : ℕ} (m n o : ℕ) → natAbs x ≤ m → natAbs y ≤ n
+      → fine * fine * s + 2 * (fine * (e * n + m * d) + e * d) ≤ 2 * fine * s * o
+      → Near s fine x f e → Near s fine y g d → Near s fine (roundDiv (x *ℤ y) s) (f times g) o
+  near-product hs hfine {x} {y} {f} {g} {e} {d} m n o hm hn test hx hy = record {
     near =
         scaled (f .bottom) (g .bottom) (natAbs (roundDiv (x *ℤ y) s *ℤ pos s -ℤ x *ℤ y)) (natAbs (x *ℤ pos (f .bottom) -ℤ f .top *ℤ pos s)) (natAbs (y *ℤ pos (g .bottom) -ℤ g .top *ℤ pos s)) (natAbs x) (natAbs y)
         (natAbs (roundDiv (x *ℤ y) s *ℤ pos (f .bottom * g .bottom) -ℤ f .top *ℤ g .top *ℤ pos s))
@@ -152,59 +152,59 @@ module _ {s k : ℕ} where
         (product-apart s (roundDiv (x *ℤ y) s) x y (f .top) (g .top) (f .bottom) (g .bottom));
   }
     where
-      parts : (a b r p q i j : ℕ) → 2 * k * k * (r * (a * b) + p * (j * b) + i * a * q + p * q) ≡ k * k * (a * b) * (2 * r) + 2 * k * b * (k * p * j) + 2 * k * a * (i * (k * q)) + 2 * (k * p * (k * q))
+      parts : (a b r p q i j : ℕ) → 2 * fine * fine * (r * (a * b) + p * (j * b) + i * a * q + p * q) ≡ fine * fine * (a * b) * (2 * r) + 2 * fine * b * (fine * p * j) + 2 * fine * a * (i * (fine * q)) + 2 * (fine * p * (fine * q))
       parts a b r p q i j = omega arith
 
-      limits : (a b : ℕ) → k * k * (a * b) * s + 2 * k * b * (e * a * n) + 2 * k * a * (m * (d * b)) + 2 * (e * a * (d * b)) ≡ (k * k * s + 2 * (k * (e * n + m * d) + e * d)) * (a * b)
+      limits : (a b : ℕ) → fine * fine * (a * b) * s + 2 * fine * b * (e * a * n) + 2 * fine * a * (m * (d * b)) + 2 * (e * a * (d * b)) ≡ (fine * fine * s + 2 * (fine * (e * n + m * d) + e * d)) * (a * b)
       limits a b = omega arith
 
-      left : (w : ℕ) → 2 * k * s * (k * w) ≡ 2 * k * k * (w * s)
+      left : (w : ℕ) → 2 * fine * s * (fine * w) ≡ 2 * fine * fine * (w * s)
       left w = omega arith
 
-      right : (a b : ℕ) → 2 * k * s * o * (a * b) ≡ 2 * k * s * (o * (a * b))
+      right : (a b : ℕ) → 2 * fine * s * o * (a * b) ≡ 2 * fine * s * (o * (a * b))
       right a b = omega arith
 
-      scaled : (a b r p q i j w : ℕ) → 2 * r ≤ s → k * p ≤ e * a → k * q ≤ d * b → i ≤ m → j ≤ n → w * s ≤ r * (a * b) + p * (j * b) + i * a * q + p * q → k * w ≤ o * (a * b)
+      scaled : (a b r p q i j w : ℕ) → 2 * r ≤ s → fine * p ≤ e * a → fine * q ≤ d * b → i ≤ m → j ≤ n → w * s ≤ r * (a * b) + p * (j * b) + i * a * q + p * q → fine * w ≤ o * (a * b)
       scaled a b r p q i j w hr hp hq hi hj h =
-          le-of-mul-le-mul-left {k = 2 * k * s}
+          le-of-mul-le-mul-left {k = 2 * fine * s}
           (le-trans (le-of-eq (left w))
-          (le-trans (mul-le-mul-left (2 * k * k) h)
+          (le-trans (mul-le-mul-left (2 * fine * fine) h)
           (le-trans (le-of-eq (parts a b r p q i j))
           (le-trans
           (add-le-add
           (add-le-add
-          (add-le-add (mul-le-mul-left (k * k * (a * b)) hr) (mul-le-mul-left (2 * k * b) (mul-le-mul hp hj)))
-          (mul-le-mul-left (2 * k * a) (mul-le-mul hi hq)))
+          (add-le-add (mul-le-mul-left (fine * fine * (a * b)) hr) (mul-le-mul-left (2 * fine * b) (mul-le-mul hp hj)))
+          (mul-le-mul-left (2 * fine * a) (mul-le-mul hi hq)))
           (mul-le-mul-left 2 (mul-le-mul hp hq)))
           (le-trans (le-of-eq (limits a b))
           (le-trans (mul-le-mul-right (a * b) test) (le-of-eq (right a b))))))))
-          (mul-pos (mul-pos (omega arith) hk) hs)
+          (mul-pos (mul-pos (omega arith) hfine) hs)
 
   -- ---- a multiple, added to a sum
-  pub near-sum : (c : ℤ) {x y : ℤ} {f g : Fraction} {e d : ℕ} → Near s k x f e → Near s k y g d → Near s k (c *ℤ x +ℤ y) (whole c times f plus g) (natAbs c * e + d)
+  pub near-sum : (c : ℤ) {x y : ℤ} {f g : Fraction} {e d : ℕ} → Near s fine x f e → Near s fine y g d → Near s fine (c *ℤ x +ℤ y) (whole c times f plus g) (natAbs c * e + d)
   near-sum c {x} {y} {f} {g} {e} {d} hx hy = record {
     near =
         omega (
           arith,
-          mul-le-mul-left k (sum-apart s c x y (f .top) (g .top) (f .bottom) (g .bottom)),
+          mul-le-mul-left fine (sum-apart s c x y (f .top) (g .top) (f .bottom) (g .bottom)),
           mul-le-mul-left (natAbs c * g .bottom) (hx .near),
           mul-le-mul-left (f .bottom) (hy .near),
         );
   }
 
   -- ---- the sum, divided and rounded once: no scale is left
-  pub near-answer : 0 < k → {x : ℤ} {f : Fraction} {e d : ℕ} (h n : ℕ) → 0 < d → 0 < f .bottom
-      → n * (k * d + 2 * e) ≤ 2 * d * h * k → Near s k x f e → Within h n (f times (pos s over d)) (roundDiv x d)
-  near-answer hk {x} {f} {e} {d} h n hd hf test hx = record {
+  pub near-answer : 0 < fine → {x : ℤ} {f : Fraction} {e d : ℕ} (h n : ℕ) → 0 < d → 0 < f .bottom
+      → n * (fine * d + 2 * e) ≤ 2 * d * h * fine → Near s fine x f e → Within h n (f times (pos s over d)) (roundDiv x d)
+  near-answer hfine {x} {f} {e} {d} h n hd hf test hx = record {
     proper = mul-pos hf hd;
     near =
-        le-of-mul-le-mul-left {k = 2 * k}
+        le-of-mul-le-mul-left {k = 2 * fine}
         (omega (
           arith,
-          mul-le-mul-left (2 * k * n) (quotient-apart s (roundDiv x d) x (f .top) d (f .bottom)),
-          mul-le-mul-left (k * n * f .bottom) (round-within x hd),
+          mul-le-mul-left (2 * fine * n) (quotient-apart s (roundDiv x d) x (f .top) d (f .bottom)),
+          mul-le-mul-left (fine * n * f .bottom) (round-within x hd),
           mul-le-mul-left (2 * n) (hx .near),
           mul-le-mul-right (f .bottom) test,
         ))
-        (mul-pos (omega arith) hk);
+        (mul-pos (omega arith) hfine);
   }

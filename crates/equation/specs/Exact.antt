@@ -35,7 +35,12 @@ unfoldable pub exactOf : List Term → Fraction → Fraction → Fraction
 exactOf [] exactU exactV = whole (pos 0)
 exactOf (term c i j ∷ ts) exactU exactV = whole c times (exactU to-the i times exactV to-the j) plus exactOf ts exactU exactV
 
--- ---- a whole number is within h / k of a fraction, whose bottom is above zero
-pub record Within (h k : ℕ) (f : Fraction) (x : ℤ) : Type 0 where
+-- ---- a whole number is within h / n of a fraction, whose bottom is above zero
+pub record Within (h n : ℕ) (f : Fraction) (x : ℤ) : Type 0 where
   pub proper : 0 < f .bottom
-  pub near : k * natAbs (x *ℤ pos (f .bottom) -ℤ f .top) ≤ h * f .bottom
+  pub near : n * natAbs (x *ℤ pos (f .bottom) -ℤ f .top) ≤ h * f .bottom
+
+-- and it is farther than that
+pub record Beyond (h n : ℕ) (f : Fraction) (x : ℤ) : Type 0 where
+  pub proper : 0 < f .bottom
+  pub far : h * f .bottom < n * natAbs (x *ℤ pos (f .bottom) -ℤ f .top)
