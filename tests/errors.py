@@ -6,7 +6,8 @@
 
 Over each area: its corners, points along its edges, and points spread over it. The exact value is a whole number over one
 power of 360,000,000,000,000, in Python's whole numbers. Nothing of the crates is used but the bounds, which are read from
-crates/datum/specs/Exact.antt. They are also held to demand 3, and to the same calculus in fractions.
+crates/datum/specs/Exact.antt. They are also held to demand 3, and to the same calculus in fractions. The working rule is
+tests/pages.py's once more, in whole numbers, which are over 20 times as fast as its fractions.
 """
 import glob
 import re
@@ -17,9 +18,8 @@ from multiprocessing import Pool
 
 import document_000
 import pages
+from pages import DEGREE, SCALE
 
-SCALE = 100_000_000
-DEGREE = 3_600_000                          # in ms
 BOTTOM = 360_000_000_000_000                # of exact U and V
 LACKING = [BOTTOM ** (9 - n) for n in range(10)]
 WHOLE = BOTTOM ** 18
@@ -34,16 +34,19 @@ def places(code):
     """Edges with their corners, and points within, as latitude and longitude in ms."""
     south, north, west, east = pages.AREAS[code]
     for k in range(ALONG + 1):
-        latitude, longitude = south + (north - south) * k // ALONG, west + (east - west) * k // ALONG
-        yield from ((latitude, west), (latitude, east), (south, longitude), (north, longitude))
+        latitude = south + (north - south) * k // ALONG
+        yield from ((latitude, west), (latitude, east))
+    for k in range(1, ALONG):
+        longitude = west + (east - west) * k // ALONG
+        yield from ((south, longitude), (north, longitude))
     for k in range(1, WITHIN + 1):
         x, y = (k * step % 2 ** 64 for step in BEYOND)
         yield south + (north - south + 1) * x // 2 ** 64, west + (east - west + 1) * y // 2 ** 64
 
 
-def tops(code, place):
+def tops(frame, place):
     """K times the distance from the centre in ms: exact U and V, times BOTTOM."""
-    *centre, factor = document_000.frame(code)
+    *centre, factor = frame
     return [factor * (x - degrees * DEGREE) for x, degrees in zip(place, centre)]
 
 
@@ -74,11 +77,10 @@ def exact(equations, a, b):
 
 def largest(code):
     """The code, how many points were tried, and of each equation the largest distance in units and its place."""
-    *centre, factor = document_000.frame(code)
-    equations = document_000.equations(code)
+    frame, equations = document_000.frame(code), document_000.equations(code)
     seen, tried = [(-1, None)] * len(equations), 0
     for place in places(code):
-        a, b = (factor * (x - degrees * DEGREE) for x, degrees in zip(place, centre))
+        a, b = tops(frame, place)
         for n, (x, value) in enumerate(zip(worked(equations, a, b), exact(equations, a, b))):
             distance = abs(x * WHOLE - value)
             if distance > seen[n][0]:
@@ -94,9 +96,9 @@ def product_error(e, d, m, n):
 
 def calculus(code):
     """The bound of each equation, in units: the errors of the roundings, carried through the rule in fractions."""
-    south, north, west, east = pages.AREAS[code]
+    frame, (south, north, west, east) = document_000.frame(code), pages.AREAS[code]
     half, sizes, errors = Fraction(1, 2), [], []
-    for ends in zip(tops(code, (south, west)), tops(code, (north, east))):
+    for ends in zip(tops(frame, (south, west)), tops(frame, (north, east))):
         size = max(abs(rounded(end, DEGREE)) for end in ends)
         sizes.append(tens(size))
         errors.append([Fraction(0), half])
@@ -141,9 +143,20 @@ def alike():
     """The points of the papers: this script works them as tests/pages.py does, which the compiled program is held to."""
     points = [pages.centre(code) for code in pages.AREAS] + [p[:3] for p in pages.PRINTED] + pages.OTHERS
     for code, *place in points:
-        here = ' '.join(map(str, worked(document_000.equations(code), *tops(code, place))))
+        here = ' '.join(map(str, worked(document_000.equations(code), *tops(document_000.frame(code), place))))
         if here != pages.worked(code, *place):
             yield f'code {code} at {place}: {here} here, and {pages.worked(code, *place)} in tests/pages.py'
+
+
+def shown():
+    """The exact dLat of code 1 at document 000's test point, by fractions, is the one that the theorem `exact-worked` has."""
+    code, *place = pages.PRINTED[0][:3]
+    value = Fraction(exact(document_000.equations(code), *tops(document_000.frame(code), place))[0], WHOLE)
+    with open('crates/datum/proofs/Demands.antt', encoding='utf-8') as f:
+        source = f.read()
+    statement = f'(pos {place[0]}) (pos {place[1]})) (λ dLat dLon dH. Within 0 1 (dLat times whole (pos {value.denominator})) (negℤ (pos {-value.numerator})))'
+    if statement not in source:
+        yield f'crates/datum/proofs/Demands.antt does not show {value}'
 
 
 def held(rows):
@@ -161,7 +174,7 @@ def held(rows):
 
 def main():
     rows, wrong = table()
-    wrong += alike()
+    wrong += [*alike(), *shown()]
     if '--check' in sys.argv:
         wrong += held(rows)
         print('\n'.join(wrong) or f'errors: {len(rows)} equations, each seen below its bound')
