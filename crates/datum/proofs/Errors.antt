@@ -16,7 +16,7 @@ use Rattle.equation.proofs.Errors.{bounded, bounded-wider, answer-near}
 use Rattle.datum.specs.Page.{Page, Family, shift, geoid, each, Each, Paired}
 use Rattle.datum.specs.Point.{isCode, pageOf, inArea, powersU, powersV, evaluated, worked}
 use Rattle.datum.specs.Exact.{exactFrom, polynomials, exact, AllWithin, demanded, boundsOf}
-use Rattle.datum.proofs.Families.{each-by, paired, paired-by, shift-so, geoid-so}
+use Rattle.datum.proofs.Families.{each-by, each-of, paired, paired-by, shift-so, geoid-so}
 use Rattle.datum.proofs.Codes.{six}
 use Rattle.datum.proofs.Limits.{most-u, most-v, u-size, v-size}
 
@@ -95,14 +95,10 @@ abbrev Over : ℕ → Fraction → Type 0
 Over d f = (n : ℤ) × Within 0 1 (f times whole (pos d)) n
 
 pub over-power : (n : ℕ) {d : ℕ} (a b : ℤ) (tables : Family (List Term)) → 0 < d → T (each (reaches n) tables) → Each (Over (d ^ n)) (polynomials tables (a over d) (b over d))
-over-power n {d} a b tables p test = go tables (each-by {P = At} (reaches n) (λ table t. (common d n a b table, over-common d n a b table p t)) tables test)
+over-power n {d} a b tables p test = each-of (Over (d ^ n)) value tables (each-by {P = λ table. Over (d ^ n) (value table)} (reaches n) (λ table t. (common d n a b table, over-common d n a b table p t)) tables test)
   where
-    At : List Term → Type 0
-    At table = Over (d ^ n) (exactOf table (a over d) (b over d))
-
-    go : (tables : Family (List Term)) → Each At tables → Each (Over (d ^ n)) (polynomials tables (a over d) (b over d))
-    go (shift dLat dLon dH) w = w
-    go (geoid table) w = w
+    value : List Term → Fraction
+    value table = exactOf table (a over d) (b over d)
 
 -- ---- two points whose exact values no one answer meets
 -- more than four units apart, so that nothing is within two of both

@@ -2,7 +2,7 @@
 use mathlib.Core.Bool.{Bool, false, _&&_}
 use lib.Dec.{T}
 use mir.Facts.{and-yes}
-use Rattle.datum.specs.Page.{Family, shift, geoid, each, Each, OfShift, OfGeoid, Paired}
+use Rattle.datum.specs.Page.{Family, shift, geoid, ofEach, each, Each, OfShift, OfGeoid, Paired}
 
 three : (a b c : Bool) → T (a && (b && c)) → T a × T b × T c
 three a b c h =
@@ -16,6 +16,11 @@ each-by test f (shift a b c) h =
     let t = three (test a) (test b) (test c) h in
     (f a (t .0), f b (t .1), f c (t .2))
 each-by test f (geoid n) h = f n h
+
+-- what holds of each that is worked out
+pub each-of : {A B : Type 0} (P : B → Type 0) (work : A → B) (family : Family A) → Each (λ a. P (work a)) family → Each P (ofEach work family)
+each-of P work (shift a b c) h = h
+each-of P work (geoid n) h = h
 
 -- a test of two of one family, place by place
 abbrev pub paired : {A B : Type 0} → (A → B → Bool) → Family A → Family B → Bool

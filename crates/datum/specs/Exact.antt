@@ -5,7 +5,7 @@ use lib.IntN.{ℤ, pos, _-ℤ_, _*ℤ_}
 use lib.ListN.{getD}
 use Rattle.equation.specs.Equation.{Term}
 use Rattle.equation.specs.Exact.{Fraction, _over_, exactOf, Within}
-use Rattle.datum.specs.Page.{Page, Family, shift, geoid, OfShift, OfGeoid}
+use Rattle.datum.specs.Page.{Page, Family, shift, geoid, ofEach, OfShift, OfGeoid}
 use Rattle.datum.specs.Point.{row}
 
 -- ---- the exact values
@@ -15,8 +15,7 @@ exactFrom k centre x = (k *ℤ (x -ℤ centre)) over 360000000000000
 
 -- each printed polynomial at exact U and V, in the units of the answer
 abbrev pub polynomials : Family (List Term) → Fraction → Fraction → Family Fraction
-polynomials (shift dLat dLon dH) exactU exactV = shift (exactOf dLat exactU exactV) (exactOf dLon exactU exactV) (exactOf dH exactU exactV)
-polynomials (geoid n) exactU exactV = geoid (exactOf n exactU exactV)
+polynomials equations exactU exactV = ofEach (λ terms. exactOf terms exactU exactV) equations
 
 abbrev pub exact : Page → ℤ → ℤ → Family Fraction
 exact page latitude longitude =

@@ -19,6 +19,11 @@ isGeoid family = not (isShift family)
 abbrev pub isEither : {A : Type 0} → Family A → Bool
 isEither family = true
 
+-- the same worked out of each
+abbrev pub ofEach : {A B : Type 0} → (A → B) → Family A → Family B
+ofEach work (shift a b c) = shift (work a) (work b) (work c)
+ofEach work (geoid n) = geoid (work n)
+
 -- whether a test holds of each
 abbrev pub each : {A : Type 0} → (A → Bool) → Family A → Bool
 each test (shift a b c) = test a && (test b && test c)

@@ -9,7 +9,7 @@ use Rattle.kinds.specs.Answer.{Answer, gives, provided}
 use Rattle.kinds.specs.Kinds.{within, isLatitude, isLongitude}
 use Rattle.equation.specs.Powers.{powersOf}
 use Rattle.equation.specs.Equation.{Term, equationOf}
-use Rattle.datum.specs.Page.{Page, Family, shift, geoid, isShift, isGeoid, isEither}
+use Rattle.datum.specs.Page.{Page, Family, isShift, isGeoid, isEither, ofEach}
 use Rattle.datum.specs.Cyprus.{cyprus}
 use Rattle.datum.specs.Minna.{minna}
 use Rattle.datum.specs.Alaska.{alaska}
@@ -50,8 +50,7 @@ powersV page longitude = powersOf scale (fromCentre (pos (page .k)) (pos (page .
 
 -- 3. and 4. each equation: dLat and dLon in 0.00001", dH and N in mm
 abbrev pub evaluated : Family (List Term) → List ℤ → List ℤ → Family ℤ
-evaluated (shift dLat dLon dH) pu pv = shift (equationOf scale dLat pu pv) (equationOf scale dLon pu pv) (equationOf scale dH pu pv)
-evaluated (geoid n) pu pv = geoid (equationOf scale n pu pv)
+evaluated equations pu pv = ofEach (λ terms. equationOf scale terms pu pv) equations
 
 abbrev pub worked : Page → ℤ → ℤ → Family ℤ
 worked page latitude longitude = evaluated (page .equations) (powersU page latitude) (powersV page longitude)

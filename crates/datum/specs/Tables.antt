@@ -6,13 +6,12 @@ use lib.Dec.{eqb, ltb}
 use lib.IntN.{pos}
 use lib.ListN.{length}
 use Rattle.equation.specs.Equation.{Term, term, amongTen}
-use Rattle.datum.specs.Page.{Page, Family, shift, geoid, Paired}
+use Rattle.datum.specs.Page.{Page, Family, shift, geoid, ofEach, Paired}
 use Rattle.datum.specs.Point.{inArea}
 
 -- the terms of each equation, with the constant
 abbrev pub counted : Family (List Term) → Family ℕ
-counted (shift dLat dLon dH) = shift (length dLat) (length dLon) (length dH)
-counted (geoid n) = geoid (length n)
+counted = ofEach length
 
 abbrev pub inAll : List Page → ℕ
 inAll [] = 0
