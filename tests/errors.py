@@ -5,9 +5,9 @@
     python3 tests/errors.py --check   holds that page to them and to the sources that it quotes
 
 Over each area: its corners, points along its edges, and points spread over it. The exact value is a whole number over one
-power of 360,000,000,000,000, in Python's whole numbers. Nothing of the crates is used but the bounds, which are read from
-crates/datum/specs/Exact.antt. They are also held to demand 3, and to the same calculus in fractions. The working rule is
-tests/pages.py's once more, in whole numbers, which are over 20 times as fast as its fractions.
+power of 360,000,000,000,000, in Python's whole numbers. Nothing of the crates is used in the working. The bounds are read from
+crates/datum/specs/Exact.antt, and are also held to demand 3 and to the same calculus in fractions. The working rule is
+tests/pages.py's once more, in whole numbers, which are over ten times as fast as its fractions.
 """
 import glob
 import re
@@ -140,7 +140,7 @@ def table():
 
 
 def alike():
-    """The points of the papers: this script works them as tests/pages.py does, which the compiled program is held to."""
+    """The points that tests/pages.py has in the areas are worked here as there, to which the compiled program is held."""
     points = [pages.centre(code) for code in pages.AREAS] + [p[:3] for p in pages.PRINTED] + pages.OTHERS
     for code, *place in points:
         here = ' '.join(map(str, worked(document_000.equations(code), *tops(document_000.frame(code), place))))
@@ -149,7 +149,7 @@ def alike():
 
 
 def shown():
-    """The exact dLat of code 1 at document 000's test point, by fractions, is the one that the theorem `exact-worked` has."""
+    """The exact dLat of code 1 at document 000's test point, in lowest terms, is the one that the theorem `exact-worked` has."""
     code, *place = pages.PRINTED[0][:3]
     value = Fraction(exact(document_000.equations(code), *tops(document_000.frame(code), place))[0], WHOLE)
     with open('crates/datum/proofs/Demands.antt', encoding='utf-8') as f:

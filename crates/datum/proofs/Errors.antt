@@ -22,17 +22,20 @@ use Rattle.datum.proofs.Limits.{most-u, most-v, u-size, v-size}
 
 -- ---- the test of a page: each equation, with its bound in nths of a unit
 -- errors on the way are counted in millionths
-abbrev holds : Page → ℕ → ℕ → List Term → Bool
-holds page n h table = bounded scale 1000000 3600000 scale (most-u page) (most-v page) h n table
+abbrev fine : ℕ
+fine = 1000000
+
+abbrev table-bounded : Page → ℕ → ℕ → List Term → Bool
+table-bounded page n h table = bounded scale fine 3600000 scale (most-u page) (most-v page) h n table
 
 abbrev pub page-bounded : ℕ → Family ℕ → Page → Bool
-page-bounded n bounds page = paired (holds page n) bounds (page .equations)
+page-bounded n bounds page = paired (table-bounded page n) bounds (page .equations)
 
--- ---- the bounds of specs/Exact are the smallest with which the test holds
-abbrev less-fails : ℤ → Bool
-less-fails code = paired (λ h table. not (holds (pageOf code) 1000 (h - 1) table)) (boundsOf code) (pageOf code .equations)
+-- ---- with no smaller bounds than those of specs/Exact does the test hold
+abbrev less-fails : Page → ℕ → List Term → Bool
+less-fails page h table = not (table-bounded page 1000 (h - 1) table)
 
-at-least : (page : Page) (h : ℕ) (table : List Term) → T (not (holds page 1000 (h - 1) table)) → (g : ℕ) → T (holds page 1000 g table) → h ≤ g
+at-least : (page : Page) (h : ℕ) (table : List Term) → T (less-fails page h table) → (g : ℕ) → T (table-bounded page 1000 g table) → h ≤ g
 at-least page h table fails g passes = go (leb h g) refl
   where
     neither : (b : Bool) → T (not b) → T b → ⊥
@@ -43,12 +46,12 @@ at-least page h table fails g passes = go (leb h g) refl
     go true e = leb-true h g e
     go false e =
         let less : g ≤ h - 1 = omega (arith, leb-false h g e) in
-        absurd (neither (holds page 1000 (h - 1) table) fails (bounded-wider scale 1000000 3600000 scale (most-u page) (most-v page) 1000 table less passes))
+        absurd (neither (table-bounded page 1000 (h - 1) table) fails (bounded-wider scale fine 3600000 scale (most-u page) (most-v page) 1000 table less passes))
 
-pub smallest : (code : ℤ) → isCode code ≡ true → Paired (λ h table. (g : ℕ) → T (holds (pageOf code) 1000 g table) → h ≤ g) (boundsOf code) (pageOf code .equations)
+pub smallest : (code : ℤ) → isCode code ≡ true → Paired (λ h table. (g : ℕ) → T (table-bounded (pageOf code) 1000 g table) → h ≤ g) (boundsOf code) (pageOf code .equations)
 smallest code h =
-    paired-by (λ h table. not (holds (pageOf code) 1000 (h - 1) table)) (at-least (pageOf code)) (boundsOf code) (pageOf code .equations)
-    (six (λ z. T (less-fails z)) tt tt tt tt tt tt code h)
+    paired-by (less-fails (pageOf code)) (at-least (pageOf code)) (boundsOf code) (pageOf code .equations)
+    (six (λ z. T (paired (less-fails (pageOf z)) (boundsOf z) (pageOf z .equations))) tt tt tt tt tt tt code h)
 
 -- ---- what the test shows of a point of the area
 module _ (page : Page) (latitude longitude : ℤ) (inside : inArea page latitude longitude ≡ true) where
@@ -58,15 +61,15 @@ module _ (page : Page) (latitude longitude : ℤ) (inside : inArea page latitude
   abbrev exactV : Fraction
   exactV = exactFrom (pos (page .k)) (pos (page .longitude)) longitude
 
-  table-near : (n h : ℕ) (table : List Term) → T (holds page n h table) → Within h n (exactOf table exactU exactV) (equationOf scale table (powersU page latitude) (powersV page longitude))
+  table-near : (n h : ℕ) (table : List Term) → T (table-bounded page n h table) → Within h n (exactOf table exactU exactV) (equationOf scale table (powersU page latitude) (powersV page longitude))
   table-near n h table test =
       within-same (exactOf table exactU exactV) _ (same-times (exactOf table exactU exactV) scale) (exact-proper exactU exactV (lit< tt) (lit< tt) table)
-      (answer-near scale 1000000 3600000 scale (most-u page) (most-v page) h n table
+      (answer-near scale fine 3600000 scale (most-u page) (most-v page) h n table
       (pos (page .k) *ℤ (latitude -ℤ pos (page .latitude))) (pos (page .k) *ℤ (longitude -ℤ pos (page .longitude)))
       (u-size page latitude longitude inside) (v-size page latitude longitude inside) test)
 
-  tables-near : (n : ℕ) (bounds : Family ℕ) (tables : Family (List Term)) → T (paired (holds page n) bounds tables) → AllWithin n bounds (polynomials tables exactU exactV) (evaluated tables (powersU page latitude) (powersV page longitude))
-  tables-near n (shift h i j) (shift dLat dLon dH) test = paired-by (holds page n) (table-near n) (shift h i j) (shift dLat dLon dH) test
+  tables-near : (n : ℕ) (bounds : Family ℕ) (tables : Family (List Term)) → T (paired (table-bounded page n) bounds tables) → AllWithin n bounds (polynomials tables exactU exactV) (evaluated tables (powersU page latitude) (powersV page longitude))
+  tables-near n (shift h i j) (shift dLat dLon dH) test = paired-by (table-bounded page n) (table-near n) (shift h i j) (shift dLat dLon dH) test
   tables-near n (geoid h) (geoid table) test = table-near n h table test
   tables-near n (shift h i j) (geoid table) test = absurd test
   tables-near n (geoid h) (shift dLat dLon dH) test = absurd test

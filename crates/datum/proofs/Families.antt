@@ -17,11 +17,6 @@ each-by test f (shift a b c) h =
     (f a (t .0), f b (t .1), f c (t .2))
 each-by test f (geoid n) h = f n h
 
--- what holds of each that is worked out
-pub each-of : {A B : Type 0} (P : B → Type 0) (work : A → B) (family : Family A) → Each (λ a. P (work a)) family → Each P (ofEach work family)
-each-of P work (shift a b c) h = h
-each-of P work (geoid n) h = h
-
 -- a test of two of one family, place by place
 abbrev pub paired : {A B : Type 0} → (A → B → Bool) → Family A → Family B → Bool
 paired test (shift a b c) (shift d e f) = test a d && (test b e && test c f)
@@ -45,3 +40,8 @@ shift-so (geoid n) f p = absurd p
 pub geoid-so : {A : Type 0} {P Q : A → Type 0} (family : Family A) → ((a : A) → P a → Q a) → OfGeoid family P → OfGeoid family Q
 geoid-so (shift a b c) f p = absurd p
 geoid-so (geoid n) f p = f n p
+
+-- what holds of each that is worked out
+pub each-of : {A B : Type 0} (P : B → Type 0) (work : A → B) (family : Family A) → Each (λ a. P (work a)) family → Each P (ofEach work family)
+each-of P work (shift a b c) h = h
+each-of P work (geoid n) h = h

@@ -21,7 +21,7 @@ use Rattle.datum.specs.Nahrwan.{nahrwan}
 abbrev pub isCode : ℤ → Bool
 isCode code = within (pos 1) (pos 6) code
 
--- the row of a code in a list by codes; asked only of a number that is one
+-- the row of a code in a list by codes; asked only of a number that is a code
 abbrev pub row : ℤ → ℕ
 row code = natAbs code - 1
 

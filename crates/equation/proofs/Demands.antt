@@ -4,7 +4,7 @@ use mathlib.Core.List.{List, [], _∷_, Perm}
 use mathlib.Core.Logic.{∥∥₁-elim}
 use Prim.Native.Nat.{ℕ, _+_, _<_, _≤_}
 use native.Mathlib.Omega.{arith}
-use lib.Dec.{lit<, lit≤, le→leb}
+use lib.Dec.{lit<, lit≤, le→leb, lt→ltb}
 use lib.IntN.{ℤ, pos, negℤ, _*ℤ_, ℤ-set}
 use lib.ListN.{length, getD}
 use Rattle.whole.specs.Round.{roundDiv, scale}
@@ -49,10 +49,11 @@ pub record Exact : Type 0 where
   pub polynomial : Within 0 1 (exactOf (term (pos 6) 2 1 ∷ term (pos 1) 0 0 ∷ []) (pos 1 over 2) (pos 2 over 3)) (pos 2)
   -- 'a zeroth power being 1', of zero too
   pub zeroth : Within 0 1 (exactOf (term (pos 5) 0 0 ∷ []) (pos 0 over 7) (negℤ (pos 3) over 2)) (pos 5)
-  -- 7 and -2 are within 9 / 2 of 5 / 2; 8 and -3 are not, and are farther
+  -- 7 and -2 are within 9 / 2 of 5 / 2 and not farther; 8 and -3 are farther and not within
   pub within : Within 9 2 (pos 5 over 2) (pos 7) × Within 9 2 (pos 5 over 2) (negℤ (pos 2))
   pub not-within : (Within 9 2 (pos 5 over 2) (pos 8) → ⊥) × (Within 9 2 (pos 5 over 2) (negℤ (pos 3)) → ⊥)
   pub beyond : Beyond 9 2 (pos 5 over 2) (pos 8) × Beyond 9 2 (pos 5 over 2) (negℤ (pos 3))
+  pub not-beyond : (Beyond 9 2 (pos 5 over 2) (pos 7) → ⊥) × (Beyond 9 2 (pos 5 over 2) (negℤ (pos 2)) → ⊥)
 
 pub exact : Exact
 unfolding exactOf _to-the_
@@ -62,4 +63,5 @@ exact = record {
   within = (record { proper = lit< tt; near = lit≤ tt }, record { proper = lit< tt; near = lit≤ tt });
   not-within = ((λ w. absurd (le→leb _ _ (w .near))), (λ w. absurd (le→leb _ _ (w .near))));
   beyond = (record { proper = lit< tt; far = lit< tt }, record { proper = lit< tt; far = lit< tt });
+  not-beyond = ((λ b. absurd (lt→ltb _ _ (b .far))), (λ b. absurd (lt→ltb _ _ (b .far))));
 }

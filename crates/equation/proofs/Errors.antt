@@ -1,8 +1,8 @@
 -- How far the answer of an equation can be from its exact value: one computed test, and the one theorem about it, over any
 -- table, any limits of u and v, any scale, any last divisor and any bound. Assumes nothing.
 --
--- An error on the way is counted as a whole number over `fine`, and the next larger is taken: the larger `fine` is, the less
--- is lost in counting.
+-- An error on the way is counted as a whole number over `fine`, of a product the next larger: the larger `fine` is, the less is
+-- lost in counting.
 use mathlib.Core.Path.{sym, ap, _∙_, subst}
 use mathlib.Core.Bool.{Bool, true, false, _&&_}
 use mathlib.Core.List.{List, [], _∷_}

@@ -13,7 +13,7 @@ use Rattle.whole.proofs.Rounding.{nearest-mono}
 use Rattle.whole.proofs.Products.{product-size}
 use Rattle.equation.specs.Powers.{powersOf}
 use Rattle.equation.specs.Equation.{Term, term, amongTen, product, equationOf}
-use Rattle.equation.specs.Room.{Fitting, Each, sizes, Room}
+use Rattle.equation.specs.Room.{Fitting, EachFits, sizes, Room}
 use Rattle.equation.proofs.Steps.{limit, power-size, powers-at}
 use Rattle.equation.proofs.Sums.{sum-size}
 
@@ -65,15 +65,15 @@ module _ {mu mv : ℕ} (u v : ℤ) (hu : natAbs u ≤ mu) (hv : natAbs v ≤ mv)
   size-reach c i j f =
       mul-le-mul (le-refl (natAbs c)) (product-size (getD pu i (pos 0)) (getD pv j (pos 0)) (lit< tt) (at-u i (f .0)) (at-v j (f .1)))
 
-  terms-fit : (ts : List Term) → T (terms-keep mu mv ts) → Each ts pu pv
-  unfolding Each
+  terms-fit : (ts : List Term) → T (terms-keep mu mv ts) → EachFits ts pu pv
+  unfolding EachFits
   terms-fit [] h = tt
   terms-fit (t ∷ ts) h =
       let a = and-yes (term-keeps mu mv t) (terms-keep mu mv ts) h in
       (term-fits t (a .0), terms-fit ts (a .1))
 
-  sizes-reach : (ts : List Term) → Each ts pu pv → sizes ts pu pv ≤ reach mu mv ts
-  unfolding Each sizes
+  sizes-reach : (ts : List Term) → EachFits ts pu pv → sizes ts pu pv ≤ reach mu mv ts
+  unfolding EachFits sizes
   sizes-reach [] e = zero-le
   sizes-reach (term c i j ∷ ts) e = add-le-add (size-reach c i j (e .0)) (sizes-reach ts (e .1))
 
@@ -84,7 +84,7 @@ module _ {mu mv : ℕ} (u v : ℤ) (hu : natAbs u ≤ mu) (hv : natAbs v ≤ mv)
     abbrev in-4-bytes : Bool
     in-4-bytes = ltb (nearest (reach mu mv ts) divisor) 2147483648
 
-    fit : Each ts pu pv
+    fit : EachFits ts pu pv
     fit = terms-fit ts (and-yes (terms-keep mu mv ts) (in-64-bits && in-4-bytes) h .0)
 
     sums : T in-64-bits × T in-4-bytes

@@ -10,7 +10,7 @@ use lib.IntN.{ℤ, pos, natAbs, _+ℤ_, _*ℤ_, +ℤ-assoc, +ℤ-comm, +ℤ-idl,
 use Rattle.whole.proofs.Sizes.{abs-+, abs-*}
 use Rattle.whole.specs.Round.{scale}
 use Rattle.equation.specs.Equation.{Term, term, product, sum, terms}
-use Rattle.equation.specs.Room.{Fitting, Each, sizes}
+use Rattle.equation.specs.Room.{Fitting, EachFits, sizes}
 
 -- what a term adds to the sum
 abbrev pub value : Term → List ℤ → List ℤ → ℤ
@@ -87,8 +87,8 @@ module _ (pu pv : List ℤ) where
   sizes-at zero (t ∷ ts) h = omega (arith, sizes-first t ts)
   sizes-at (suc k) (t ∷ ts) h = omega (arith, sizes-first t ts, sizes-at k ts (le-of-suc-le-suc h))
 
-  pub each-at : (k : ℕ) (ts : List Term) → Each ts pu pv → k < length ts → Fitting (getD ts k none) pu pv
-  unfolding Each
+  pub each-at : (k : ℕ) (ts : List Term) → EachFits ts pu pv → k < length ts → Fitting (getD ts k none) pu pv
+  unfolding EachFits
   each-at k [] e h = absurd (not-suc-le-zero h)
   each-at zero (t ∷ ts) e h = e .0
   each-at (suc k) (t ∷ ts) e h = each-at k ts (e .1) (le-of-suc-le-suc h)

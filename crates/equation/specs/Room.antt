@@ -11,9 +11,9 @@ use Rattle.equation.specs.Equation.{Term, term, product}
 abbrev pub Fitting : Term → List ℤ → List ℤ → Type 0
 Fitting (term c i j) pu pv = (i < 10) × (j < 10) × (natAbs (getD pu i (pos 0) *ℤ getD pv j (pos 0)) < 2 ^ 63)
 
-unfoldable pub Each : List Term → List ℤ → List ℤ → Type 0
-Each [] pu pv = Unit {0}
-Each (t ∷ ts) pu pv = Fitting t pu pv × Each ts pu pv
+unfoldable pub EachFits : List Term → List ℤ → List ℤ → Type 0
+EachFits [] pu pv = Unit {0}
+EachFits (t ∷ ts) pu pv = Fitting t pu pv × EachFits ts pu pv
 
 -- the sizes of the terms, summed
 unfoldable pub sizes : List Term → List ℤ → List ℤ → ℕ
@@ -21,5 +21,5 @@ sizes [] pu pv = 0
 sizes (term c i j ∷ ts) pu pv = natAbs c * natAbs (product scale i j pu pv) + sizes ts pu pv
 
 pub record Room (ts : List Term) (pu pv : List ℤ) : Type 0 where
-  pub each : Each ts pu pv
+  pub each : EachFits ts pu pv
   pub within : sizes ts pu pv < 2 ^ 63
