@@ -16,7 +16,7 @@ use Rattle.equation.proofs.Errors.{bounded, bounded-wider, answer-near}
 use Rattle.datum.specs.Page.{Page, Family, shift, geoid, each, Each, Paired}
 use Rattle.datum.specs.Point.{isCode, pageOf, inArea, powersU, powersV, evaluated, worked}
 use Rattle.datum.specs.Exact.{exactFrom, polynomials, exact, AllWithin, demanded, boundsOf}
-use Rattle.datum.proofs.Families.{each-by, each-of, paired, paired-by, shift-so, geoid-so}
+use Rattle.datum.proofs.Families.{three, each-by, each-of, paired, paired-by, shift-so, geoid-so}
 use Rattle.datum.proofs.Codes.{six}
 use Rattle.datum.proofs.Limits.{most-u, most-v, u-size, v-size}
 
@@ -87,7 +87,7 @@ module _ (n m : ℕ) (p : 0 < n) where
 
   pub all-widened : (narrow wide : Family ℕ) (exacts : Family Fraction) (values : Family ℤ) → T (no-narrower n m narrow wide) → AllWithin n narrow exacts values → AllWithin m wide exacts values
   all-widened (shift h i j) (shift o q r) exacts values test =
-      let t = paired-by {P = λ a b. T (leb (m * a) (b * n))} (λ a b. leb (m * a) (b * n)) (λ a b u. u) (shift h i j) (shift o q r) test in
+      let t = three (leb (m * h) (o * n)) (leb (m * i) (q * n)) (leb (m * j) (r * n)) test in
       shift-so exacts (λ dLat dLon dH. shift-so values (λ a b c w. (widened h o (t .0) (w .0), widened i q (t .1) (w .1), widened j r (t .2) (w .2))))
   all-widened (geoid h) (geoid o) exacts values test = geoid-so exacts (λ height. geoid-so values (λ a. widened h o test))
   all-widened (shift h i j) (geoid o) exacts values test = absurd test

@@ -4,7 +4,8 @@ use lib.Dec.{T}
 use mir.Facts.{and-yes}
 use Rattle.datum.specs.Page.{Family, shift, geoid, ofEach, each, Each, OfShift, OfGeoid, Paired}
 
-three : (a b c : Bool) → T (a && (b && c)) → T a × T b × T c
+-- three tests
+pub three : (a b c : Bool) → T (a && (b && c)) → T a × T b × T c
 three a b c h =
     let p = and-yes a (b && c) h in
     let q = and-yes b c (p .1) in

@@ -3,7 +3,7 @@
 --
 -- An error on the way is counted as a whole number over `fine`, of a product the next larger: the larger `fine` is, the less is
 -- lost in counting.
-use mathlib.Core.Path.{sym, ap, _∙_, subst}
+use mathlib.Core.Path.{_≡_, refl, sym, ap, _∙_, subst}
 use mathlib.Core.Bool.{Bool, true, false, _&&_}
 use mathlib.Core.List.{List, [], _∷_}
 use Prim.Native.Nat.{ℕ, zero, suc, _+_, _-_, _*_, _/_, _≤_, _<_}
@@ -11,11 +11,11 @@ use native.Mathlib.Nat.{le-trans, le-of-lt, lt-mul-div-succ, mul-pos, mul-le-mul
 use lib.Dec.{T, leb, leb→le, le→leb, ltb, ltb→lt, lit<}
 use lib.IntN.{ℤ, pos, natAbs, _*ℤ_, *ℤ-comm}
 use mir.Facts.{and-yes}
-use Rattle.whole.specs.Round.{roundDiv}
+use Rattle.whole.specs.Round.{roundDiv, scale}
 use Rattle.whole.proofs.Rounding.{round-exact}
 use Rattle.equation.specs.Powers.{power, powersOf}
 use Rattle.equation.specs.Equation.{Term, term, amongTen, product, sum}
-use Rattle.equation.specs.Exact.{Fraction, _over_, _times_, _to-the_, exactOf, Within}
+use Rattle.equation.specs.Exact.{Fraction, _over_, _times_, _to-the_, exactOf, Within, Beyond}
 use Rattle.equation.proofs.Steps.{limit, power-size, powers-at}
 use Rattle.equation.proofs.Fractions.{exact-proper}
 use Rattle.equation.proofs.Nearness.{Near, near-zero, near-one, near-one-times, near-times-one, near-quotient, near-product, near-sum, near-answer}
@@ -138,3 +138,28 @@ answer-near s fine d divisor mu mv h n ts a b hu hv test =
     near-answer hfine h n (ltb→lt 0 divisor (o .1)) (exact-proper (a over (d * s)) (b over (d * s)) proper proper ts)
     (leb→le (n * (fine * divisor + 2 * sum-error s fine mu mv ts)) (2 * divisor * h * fine) (r .1))
     (sum-near hs hfine hu hv (near-quotient a hd) (near-quotient b hd) ts (r .0))
+
+-- ---- what the test has to charge: at two points the answer is 5 units off, so that it must refuse a bound of 4
+-- u or v is the quotient by d, and the scale and the last divisor are document 01's
+abbrev answer : ℕ → ℤ → ℤ → List Term → ℤ
+answer d a b ts = roundDiv (sum scale ts (powersOf scale (roundDiv a d) 10) (powersOf scale (roundDiv b d) 10)) scale
+
+abbrev value : ℕ → ℤ → ℤ → List Term → Fraction
+value d a b ts = exactOf ts (a over (d * scale)) (b over (d * scale))
+
+pub record Charged : Type 0 where
+  -- the coefficient: 1,000,000,000 U, where u is 1 / 2, rounded to 1
+  pub coefficient-far : Beyond 4 1 (value 2 (pos 1) (pos 0) (term (pos 1000000000) 1 0 ∷ [])) (answer 2 (pos 1) (pos 0) (term (pos 1000000000) 1 0 ∷ []))
+  pub coefficient-refused : bounded scale 1000000 2 scale 1 0 4 1 (term (pos 1000000000) 1 0 ∷ []) ≡ false
+  -- the rounding of a product: 1,000,000,000 U V, where u times v is half the scale
+  pub product-far : Beyond 4 1 (value 1 (pos 10000) (pos 5000) (term (pos 1000000000) 1 1 ∷ [])) (answer 1 (pos 10000) (pos 5000) (term (pos 1000000000) 1 1 ∷ []))
+  pub product-refused : bounded scale 1000000 1 scale 10000 5000 4 1 (term (pos 1000000000) 1 1 ∷ []) ≡ false
+
+pub charged : Charged
+unfolding roundDiv power powersOf sum exactOf _to-the_
+charged = record {
+  coefficient-far = record { proper = lit< tt; far = lit< tt };
+  coefficient-refused = refl;
+  product-far = record { proper = lit< tt; far = lit< tt };
+  product-refused = refl;
+}
