@@ -6,6 +6,7 @@
                                      and the points that document 01 gives in figures to the same arithmetic
 """
 import re
+import struct
 import sys
 from fractions import Fraction
 from math import floor
@@ -164,6 +165,25 @@ def worked(code, latitude, longitude, slip=''):
     return ' '.join(map(str, answers))
 
 
+# As floats: whole numbers around the ends of 4 bytes, zero and a whole second.
+MADE = [-2 ** 31, -384_288, -979, -3, -1, 0, 1, 3, 99_999, 100_000, 100_001, 2 ** 31 - 1]
+ANGLE, HEIGHT = 100_000, 1000  # units in a second and in a metre
+
+
+def bits(n, units):
+    """The float nearest to n / units, by its bits."""
+    return struct.pack('>d', n / units).hex()
+
+
+def floats(answer):
+    """A point's floats, or its refusal; then what the four calls give: three floats and the number of the refusal."""
+    zero, values = bits(0, 1), answer.split()
+    if values[0] == 'refused':
+        return ' '.join([answer, zero, zero, zero, values[1]])
+    found = [bits(int(n), units) for n, units in zip(values, [ANGLE, ANGLE, HEIGHT] if len(values) == 3 else [HEIGHT])]
+    return ' '.join(found + (found + [zero, zero])[:3] + ['0'])
+
+
 def asked(family, code, latitude, longitude):
     """The answer to a call of one family, or of both."""
     if code not in AREAS:
@@ -181,13 +201,17 @@ def asked(family, code, latitude, longitude):
 
 def point(*place):
     calls = [asked(family, *place) for family in (None, (1, 2, 3, 4), (5, 6))]
-    return ' '.join(map(str, place)) + ': ' + ' '.join(calls)
+    return ' '.join(map(str, place)) + ': ' + ' '.join(calls + [floats(calls[0])])
 
 
 def points():
     places = [centre(code) for code in AREAS] + [p[:3] for p in PRINTED]
     places += [place for code in AREAS for place in around(code)] + OTHERS + REFUSED
     return ['datum'] + [point(*place) for place in places]
+
+
+def floating():
+    return ['floating'] + [f'{n}: ' + ' '.join(bits(n, units) for units in (ANGLE, ANGLE, HEIGHT)) for n in MADE]
 
 
 def made(n):
@@ -258,7 +282,7 @@ def kinds():
 
 def text():
     whole = ['whole'] + [quotients(n) for n in NUMBERS] + [' '.join(map(str, tens(u)[1:])) for u in POWERS]
-    return '\n'.join(whole + kinds() + positions() + points()) + '\n'
+    return '\n'.join(whole + kinds() + positions() + floating() + points()) + '\n'
 
 
 def beside(found, printed):

@@ -1,16 +1,16 @@
 -- Fractions: when two are the same, which is within what, and the exact value over one common power. Assumes nothing.
-use mathlib.Core.Path.{_≡_, sym, ap, _∙_}
+use mathlib.Core.Path.{_≡_, refl, sym, ap, _∙_}
 use mathlib.Core.Bool.{Bool, true, _&&_}
 use mathlib.Core.List.{List, [], _∷_}
 use Prim.Native.Nat.{ℕ, zero, suc, _+_, _-_, _*_, _^_, _≤_, _<_}
-use native.Mathlib.Nat.{mul-pos, mul-le-mul-left, mul-le-mul-right, le-of-mul-le-mul-left, le-of-mul-le-mul-right, pow-zero, pow-suc, one-mul, mul-one}
+use native.Mathlib.Nat.{mul-pos, mul-le-mul-left, mul-le-mul-right, mul-lt-mul-of-pos-right, le-of-mul-le-mul-left, le-of-mul-le-mul-right, pow-zero, pow-suc, one-mul, mul-one}
 use native.Mathlib.Omega.{arith}
 use lib.Dec.{T, leb, leb→le, lit<}
 use lib.Pow.{pow-add}
 use lib.IntN.{ℤ, pos, natAbs, _+ℤ_, _-ℤ_, _*ℤ_, pow, one, zero-*ℤ, *ℤ-comm, +ℤ-invr}
 use mir.Facts.{and-yes}
 use Rattle.whole.proofs.Ring.{by-diff, pos-diff, diff-cong, ring₀, one-*ℤ, -ℤ-*ℤ}
-use Rattle.whole.proofs.Sizes.{abs--, abs-*}
+use Rattle.whole.proofs.Sizes.{abs--, abs-zero, abs-*}
 use Rattle.equation.specs.Equation.{Term, term}
 use Rattle.equation.specs.Exact.{Fraction, _over_, whole, _times_, _to-the_, exactOf, Within}
 
@@ -62,8 +62,8 @@ within-wider {h} {n} {f} {x} o m p t w = record {
 }
 
 -- a number near two fractions: they are near each other
-pub within-both : {h n : ℕ} {x : ℤ} (f g : Fraction) → Within h n f x → Within h n g x → n * natAbs (f .top *ℤ pos (g .bottom) -ℤ g .top *ℤ pos (f .bottom)) ≤ 2 * h * (f .bottom * g .bottom)
-within-both {h} {n} {x} f g v w =
+pub within-both : {h k n : ℕ} {x : ℤ} (f g : Fraction) → Within h n f x → Within k n g x → n * natAbs (f .top *ℤ pos (g .bottom) -ℤ g .top *ℤ pos (f .bottom)) ≤ (h + k) * (f .bottom * g .bottom)
+within-both {h} {k} {n} {x} f g v w =
     omega (
       arith,
       mul-le-mul-left n (apart (f .top) (g .top) (f .bottom) (g .bottom)),
@@ -83,6 +83,20 @@ within-both {h} {n} {x} f g v w =
           abs-* (x *ℤ pos b -ℤ u) (pos a),
           abs-* (x *ℤ pos a -ℤ t) (pos b),
         )
+
+-- two numbers near one fraction are one
+pub one-number : {h k n : ℕ} {f : Fraction} (x y : ℤ) → h + k < n → Within h n f x → Within k n f y → x ≡ y
+one-number {h} {k} {n} {f} x y s v w = abs-zero x y (none (natAbs (x -ℤ y)) (omega (arith, mul-le-mul-left n (apart (f .top) (f .bottom)), v .near, w .near)))
+  where
+    parts : (t : ℤ) (b : ℕ) → (x -ℤ y) *ℤ pos b ≡ x *ℤ pos b -ℤ t -ℤ (y *ℤ pos b -ℤ t)
+    parts t b = rw (by-diff t, by-diff x, by-diff y, pos-diff b) (simp ring₀ (diff-cong _ _ _ _ (omega arith)))
+
+    apart : (t : ℤ) (b : ℕ) → natAbs (x -ℤ y) * b ≤ natAbs (x *ℤ pos b -ℤ t) + natAbs (y *ℤ pos b -ℤ t)
+    apart t b = omega (arith, sym (abs-* (x -ℤ y) (pos b)), ap natAbs (parts t b), abs-- (x *ℤ pos b -ℤ t) (y *ℤ pos b -ℤ t))
+
+    none : (d : ℕ) → n * (d * f .bottom) ≤ (h + k) * f .bottom → d ≡ 0
+    none zero e = refl
+    none (suc d) e = absurd (omega (arith, mul-lt-mul-of-pos-right s (v .proper)))
 
 -- ---- no bottom is zero
 power-proper : (f : Fraction) → 0 < f .bottom → (n : ℕ) → 0 < (f to-the n) .bottom

@@ -3,6 +3,7 @@ use mathlib.Core.Path.{_≡_, refl, sym, ap, _∙_}
 use mathlib.Core.Bool.{Bool, true, false}
 use Prim.Native.Nat.{ℕ, _<_, _^_}
 use native.Mathlib.Omega.{arith}
+use lib.Dec.{lit<}
 use lib.IntN.{ℤ, pos, negsuc}
 use lib.Signed.{leZ, mag}
 use borrow.Author.Tests.{leb-true, le-leb}
@@ -50,7 +51,10 @@ module _ {w : Width} {least largest x : ℤ} {b : Bool} (t : Test w least larges
 pub passed-wide : {least largest x : ℤ} {b : Bool} → Test w64 least largest x b → b ≡ true → gives (toZ w64 (ofZ w64 x)) ≡ tested (within least largest x) x
 passed-wide {x = x} t h = ap gives (of (t .raw) .reads) ∙ ap (λ (b : Bool). tested b x) (sym h ∙ same t)
 
--- what 4 bytes hold is in their range
+-- 4 bytes hold what is in their range, and nothing else
+pub of-four-bytes : (x : ℤ) → isFourBytes x ≡ true → SFits w32 x
+of-four-bytes x t = between (negsuc 2147483647) (pos 2147483647) x (record { sfits = lit< tt }) (record { sfits = lit< tt }) t
+
 pub in-four-bytes : (x : ℤ) → SFits w32 x → isFourBytes x ≡ true
 in-four-bytes (pos n) f = le-leb n 2147483647 (omega (arith, f .sfits))
 in-four-bytes (negsuc n) f = joined (le-leb n 2147483647 (omega (arith, f .sfits))) refl

@@ -1,5 +1,6 @@
 // A test program: the papers' points and the edges of the machine's numbers, through the compiled crates, a line each.
 // tests/pages.py works out what it must print from the papers, with arithmetic of its own.
+mod floats;
 mod points;
 mod quantities;
 mod texts;
@@ -86,6 +87,7 @@ fn main() {
     powers(-251_327_412);
     quantities::all();
     texts::all();
+    floats::all();
     points::all();
     io::write_all(STDOUT_FILENO, b"\n");
 }

@@ -1,4 +1,4 @@
-// The datums: each point through the three calls. Its answers in units, or the numbers of the refusals.
+// The datums: each point through the three calls, and as floats. Its answers in units, or the numbers of the refusals.
 use datum::PointAnswer;
 use datum::ShiftAnswer;
 use datum::Shifts;
@@ -41,6 +41,7 @@ fn point(code: i64, latitude: i64, longitude: i64) {
     answer(code, latitude, longitude);
     shift(code, latitude, longitude);
     geoid(code, latitude, longitude);
+    super::floats::point(code, latitude, longitude);
 }
 
 fn centres() {

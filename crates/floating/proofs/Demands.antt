@@ -1,0 +1,155 @@
+-- What document 01 asks of the floating numbers. Stated over specs/ and the toolchain's account of IEEE 754. Assumes nothing.
+use mathlib.Core.Path.{_≡_, refl, sym, ap, _∙_, subst}
+use mathlib.Core.Bool.{true}
+use mathlib.Core.List.{List, [], _∷_, map}
+use mathlib.Core.Logic.{_↔_, _⊎_, inl, inr}
+use Prim.Native.Nat.{ℕ, _<_}
+use native.Mathlib.Nat.{le-trans}
+use native.Mathlib.Omega.{arith}
+use lib.Dec.{T, lit<, lit≤}
+use lib.IntN.{ℤ, pos, negℤ}
+use lib.Ieee.{Float, binary64, div, ofBits, ofInt, round}
+use Rattle.kinds.specs.Answer as Said
+use Rattle.kinds.specs.Answer.{gives, refused}
+use Rattle.kinds.specs.Kinds.{isFourBytes}
+use Rattle.equation.specs.Exact.{whole, Within}
+use Rattle.datum.specs.Page.{Family, shift, geoid, isEither}
+use Rattle.datum.specs.Point.{pageOf, answerOf, worked}
+use Rattle.datum.specs.Exact.{exact, boundsOf}
+use Rattle.datum.proofs.Codes.{six}
+use Rattle.datum.proofs.Errors.{no-narrower, all-widened}
+use Rattle.datum.proofs.Demands as datum
+use Rattle.floating.specs.Floats.{seconds, metres, zero, inFloats, allInFloats, floatingOf, firstOf, secondOf, thirdOf, refusalOf}
+use Rattle.floating.specs.Cases.{floatsSay, floatAnswer}
+use Rattle.floating.specs.Value.{valueOf, AllClose}
+use Rattle.floating.specs.declared.ShiftFloats.{ShiftFloats}
+use Rattle.floating.specs.declared.Answer.{Answer}
+use Rattle.floating.specs.declared.Answer.the-variants.{Shift, Geoid, Refused}
+use Rattle.floating.proofs.Quotients.{whole-exact}
+use Rattle.floating.proofs.Answers as answers
+
+-- ---- 'the whole answer made a 64-bit float without loss'
+pub without-loss : (n : ℤ) → isFourBytes n ≡ true → Within 0 1 (valueOf (ofInt binary64 n)) n
+without-loss n h = whole-exact n (le-trans (answers.four-bytes-size n h) (lit≤ tt))
+
+-- ---- 'then divided once by 100000 or by 1000': the code's constants, by their bits, are these numbers exactly
+pub divisors : (valueOf (ofBits binary64 0x40f8_6a00_0000_0000) ≡ whole (pos 100000)) × (valueOf (ofBits binary64 0x408f_4000_0000_0000) ≡ whole (pos 1000))
+unfolding ofBits
+divisors = (refl, refl)
+
+-- ---- 'rounded by IEEE 754': whole answers, and the bits of their floats
+abbrev angles : List (ℤ × ℕ)
+angles =
+    (negℤ (pos 384288), 0xc00e_be37_de93_9eae)
+    ∷ (negℤ (pos 110294), 0xbff1_a5a4_69d7_342f)
+    ∷ (pos 49461, 0x3fdf_a7b0_b391_9264)
+    ∷ (pos 1, 0x3ee4_f8b5_88e3_68f1)
+    ∷ (pos 0, 0x0000_0000_0000_0000)
+    ∷ (negℤ (pos 1), 0xbee4_f8b5_88e3_68f1)
+    ∷ (pos 2147483647, 0x40d4_f8b5_88b9_7785)
+    ∷ (negℤ (pos 2147483648), 0xc0d4_f8b5_88e3_68f1)
+    ∷ []
+
+abbrev heights : List (ℤ × ℕ)
+heights =
+    (negℤ (pos 979), 0xbfef_53f7_ced9_1687)
+    ∷ (pos 7464, 0x401d_db22_d0e5_6042)
+    ∷ (pos 24430, 0x4038_6e14_7ae1_47ae)
+    ∷ (negℤ (pos 28376), 0xc03c_6041_8937_4bc7)
+    ∷ (pos 1, 0x3f50_624d_d2f1_a9fc)
+    ∷ (pos 0, 0x0000_0000_0000_0000)
+    ∷ []
+
+pub seconds-worked : map (λ row. seconds (row .0)) angles ≡ map (λ row. ofBits binary64 (row .1)) angles
+unfolding div ofInt ofBits round
+seconds-worked = refl
+
+pub metres-worked : map (λ row. metres (row .0)) heights ≡ map (λ row. ofBits binary64 (row .1)) heights
+unfolding div ofInt ofBits round
+metres-worked = refl
+
+-- ---- the map program gets the handheld's answer and no other
+-- of two whole numbers with equal floats, which are equal
+pub nothing-lost : (n m : ℤ) → isFourBytes n ≡ true → isFourBytes m ≡ true → (seconds n ≡ seconds m → n ≡ m) × (metres n ≡ metres m → n ≡ m)
+nothing-lost n m h k = (answers.same-seconds n m h k, answers.same-metres n m h k)
+
+-- and of two points
+pub same-answer : (c b l d e m : ℤ) → floatingOf c b l ≡ floatingOf d e m → answerOf c b l ≡ answerOf d e m
+same-answer c b l d e m = answers.same-answers (answerOf c b l) (answerOf d e m) (λ values. datum.four-bytes isEither c b l {values = values}) (λ values. datum.four-bytes isEither d e m {values = values})
+
+module _ (code latitude longitude : ℤ) where
+  -- values are given where the whole answer has values, and they are its floats
+  pub answered : (floats : Family Float) → (floatingOf code latitude longitude ≡ gives floats) ↔ ((values : Family ℤ) × ((answerOf code latitude longitude ≡ gives values) × (inFloats values ≡ floats)))
+  answered floats = (
+    answers.gave (answerOf code latitude longitude),
+    (λ p. ap allInFloats (p .1 .0) ∙ ap gives (p .1 .1)),
+  )
+
+  -- 'a refusal number' is the whole answer's, and is never 5
+  pub same-refusal : (n : ℕ) → (floatingOf code latitude longitude ≡ refused n) ↔ (answerOf code latitude longitude ≡ refused n)
+  same-refusal n = (answers.was-refused (answerOf code latitude longitude), ap allInFloats)
+
+  pub never-5 : floatingOf code latitude longitude ≡ refused 5 → ⊥
+  never-5 h = datum.answer-never-5 code latitude longitude (same-refusal 5 .0 h)
+
+  -- ---- demand 3: each float is within two units of an angle, and one of a height, of the exact value of the printed polynomial
+  pub floats-near : {floats : Family Float} → floatingOf code latitude longitude ≡ gives floats → AllClose (exact (pageOf code) latitude longitude) floats
+  floats-near {floats} h =
+      let g = answered floats .0 h in
+      let p = datum.answered isEither code latitude longitude (g .0) .0 (g .1 .0) in
+      subst (AllClose (exact (pageOf code) latitude longitude)) (g .1 .1)
+      (answers.all-close (exact (pageOf code) latitude longitude) (g .0) (datum.four-bytes isEither code latitude longitude (g .1 .0))
+      (all-widened 1000 1000 (lit< tt) (boundsOf code) (answers.spared (g .0)) (exact (pageOf code) latitude longitude) (g .0)
+      (subst (λ (v : Family ℤ). T (no-narrower 1000 1000 (boundsOf code) (answers.spared v))) (p .1 .1)
+      (six (λ z. T (no-narrower 1000 1000 (boundsOf z) (answers.spared (worked (pageOf z) latitude longitude)))) tt tt tt tt tt tt code (p .0 .0)))
+      (datum.within-bounds isEither code latitude longitude (g .1 .0))))
+
+  -- ---- 'the first is dLat or N, the second and third are zero for a geoid height'
+  abbrev called : Float → Float → Float → ℕ → Type 0
+  called x y z n =
+      (firstOf (floatingOf code latitude longitude) ≡ x) × (secondOf (floatingOf code latitude longitude) ≡ y)
+      × (thirdOf (floatingOf code latitude longitude) ≡ z) × (refusalOf (floatingOf code latitude longitude) ≡ n)
+
+  pub of-shift : (dLat dLon dH : Float) → floatingOf code latitude longitude ≡ gives (shift dLat dLon dH) → called dLat dLon dH 0
+  of-shift dLat dLon dH h = (ap firstOf h, ap secondOf h, ap thirdOf h, ap refusalOf h)
+
+  pub of-geoid : (n : Float) → floatingOf code latitude longitude ≡ gives (geoid n) → called n zero zero 0
+  of-geoid n h = (ap firstOf h, ap secondOf h, ap thirdOf h, ap refusalOf h)
+
+  -- 'and all are zero where the point is refused'; 'a fourth call gives the point's refusal number'
+  pub of-refused : (n : ℕ) → floatingOf code latitude longitude ≡ refused n → called zero zero zero n
+  of-refused n h = (ap firstOf h, ap secondOf h, ap thirdOf h, ap refusalOf h)
+
+  -- 'or 0 for an answered point', and for no other
+  pub answered-0 : (refusalOf (floatingOf code latitude longitude) ≡ 0) ↔ ((floats : Family Float) × (floatingOf code latitude longitude ≡ gives floats))
+  answered-0 = (
+    (λ h. answers.not-refused (answerOf code latitude longitude) (λ n e. above n (datum.given-one-of isEither code latitude longitude n e)) h),
+    (λ p. ap refusalOf (p .1)),
+  )
+    where
+      above : (n : ℕ) → (n ≡ 4) ⊎ ((n ≡ 5) ⊎ ((n ≡ 3) ⊎ (n ≡ 6))) → 0 < n
+      above n (inl e) = omega arith
+      above n (inr (inl e)) = omega arith
+      above n (inr (inr (inl e))) = omega arith
+      above n (inr (inr (inr e))) = omega arith
+
+-- ---- 'that two permitted answers coincide is proved'
+pub floats-determined : (a b : ShiftFloats) → floatsSay a ≡ floatsSay b → a ≡ b
+floats-determined a b h = ap rebuilt h
+  where
+    rebuilt : Family Float → ShiftFloats
+    rebuilt (shift x y z) = record { latitude = x; longitude = y; height = z }
+    rebuilt (geoid n) = a
+
+pub determined : (a b : Answer) → floatAnswer a ≡ floatAnswer b → a ≡ b
+determined a b h = sym (back a) ∙ ap rebuilt h ∙ back b
+  where
+    rebuilt : Said.Answer (Family Float) → Answer
+    rebuilt (gives (shift x y z)) = Shift (record { latitude = x; longitude = y; height = z })
+    rebuilt (gives (geoid n)) = Geoid n
+    rebuilt (refused n) = Refused n
+
+    back : (e : Answer) → rebuilt (floatAnswer e) ≡ e
+    back (Shift s) = refl
+    back (Geoid n) = refl
+    back (Refused n) = refl

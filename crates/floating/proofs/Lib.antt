@@ -1,0 +1,4 @@
+pub mod Calls
+pub mod Quotients
+pub mod Answers
+pub mod Demands

@@ -1,0 +1,57 @@
+-- Document 01, 'Floating numbers for the map program'.
+use Prim.Native.Nat.{ℕ}
+use lib.IntN.{ℤ, pos}
+use lib.Ieee.{Float, binary64, div, ofInt}
+use Rattle.kinds.specs.Answer.{Answer, gives, refused}
+use Rattle.datum.specs.Page.{Family, shift, geoid}
+use Rattle.datum.specs.Point.{answerOf}
+
+-- the whole answer made a 64-bit float, then divided once, rounded by IEEE 754
+infixl 20 _dividedBy_
+abbrev pub _dividedBy_ : ℤ → ℕ → Float
+n dividedBy units = div binary64 (ofInt binary64 n) (ofInt binary64 (pos units))
+
+abbrev pub seconds : ℤ → Float
+seconds n = n dividedBy 100000
+
+abbrev pub metres : ℤ → Float
+metres n = n dividedBy 1000
+
+-- dLat and dLon in seconds and dH in metres, or a geoid height in metres
+abbrev pub inFloats : Family ℤ → Family Float
+inFloats (shift dLat dLon dH) = shift (seconds dLat) (seconds dLon) (metres dH)
+inFloats (geoid n) = geoid (metres n)
+
+-- or a refusal number
+abbrev pub allInFloats : Answer (Family ℤ) → Answer (Family Float)
+allInFloats (gives values) = gives (inFloats values)
+allInFloats (refused n) = refused n
+
+abbrev pub floatingOf : ℤ → ℤ → ℤ → Answer (Family Float)
+floatingOf code latitude longitude = allInFloats (answerOf code latitude longitude)
+
+-- ---- a call for each of three floating values
+abbrev pub zero : Float
+zero = ofInt binary64 (pos 0)
+
+-- the first is dLat or N
+abbrev pub firstOf : Answer (Family Float) → Float
+firstOf (gives (shift dLat dLon dH)) = dLat
+firstOf (gives (geoid n)) = n
+firstOf (refused n) = zero
+
+-- the second and third are zero for a geoid height, and all are zero where the point is refused
+abbrev pub secondOf : Answer (Family Float) → Float
+secondOf (gives (shift dLat dLon dH)) = dLon
+secondOf (gives (geoid n)) = zero
+secondOf (refused n) = zero
+
+abbrev pub thirdOf : Answer (Family Float) → Float
+thirdOf (gives (shift dLat dLon dH)) = dH
+thirdOf (gives (geoid n)) = zero
+thirdOf (refused n) = zero
+
+-- the fourth call: the point's refusal number, or 0 for an answered point
+abbrev pub refusalOf : Answer (Family Float) → ℕ
+refusalOf (gives values) = 0
+refusalOf (refused n) = n
