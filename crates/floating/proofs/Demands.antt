@@ -6,13 +6,13 @@ use mathlib.Core.Logic.{_↔_, _⊎_, inl, inr}
 use Prim.Native.Nat.{ℕ, _<_}
 use native.Mathlib.Nat.{le-trans}
 use native.Mathlib.Omega.{arith}
-use lib.Dec.{T, lit<, lit≤}
+use lib.Dec.{T, lit<, lit≤, le→leb}
 use lib.IntN.{ℤ, pos, negℤ}
 use lib.Ieee.{Float, binary64, div, ofBits, ofInt, round}
 use Rattle.kinds.specs.Answer as Said
 use Rattle.kinds.specs.Answer.{gives, refused}
 use Rattle.kinds.specs.Kinds.{isFourBytes}
-use Rattle.equation.specs.Exact.{whole, Within}
+use Rattle.equation.specs.Exact.{_over_, whole, Within}
 use Rattle.datum.specs.Page.{Family, shift, geoid, isEither}
 use Rattle.datum.specs.Point.{pageOf, answerOf, worked}
 use Rattle.datum.specs.Exact.{exact, boundsOf}
@@ -21,12 +21,26 @@ use Rattle.datum.proofs.Errors.{no-narrower, all-widened}
 use Rattle.datum.proofs.Demands as datum
 use Rattle.floating.specs.Floats.{seconds, metres, zero, inFloats, allInFloats, floatingOf, firstOf, secondOf, thirdOf, refusalOf}
 use Rattle.floating.specs.Cases.{floatsSay, floatAnswer}
-use Rattle.floating.specs.Value.{valueOf, AllClose}
+use Rattle.floating.specs.Value.{valueOf, Close, AllClose}
 use Rattle.floating.specs.declared.ShiftFloats.{ShiftFloats}
 use Rattle.floating.specs.declared.Answer.{Answer}
 use Rattle.floating.specs.declared.Answer.the-variants.{Shift, Geoid, Refused}
 use Rattle.floating.proofs.Quotients.{whole-exact}
 use Rattle.floating.proofs.Answers as answers
+
+-- ---- what a float's number and 'within' mean, shown: -0.75 is -3 / 4; 1 / 2 and 3 / 2 are within 1 of each other, and not within 1 / 2
+pub record Shown : Type 0 where
+  pub number : valueOf (ofBits binary64 0xbfe8_0000_0000_0000) ≡ negℤ (pos 3) over 4
+  pub close : Close 1 1 (pos 1 over 2) (pos 3 over 2)
+  pub not-close : Close 1 2 (pos 1 over 2) (pos 3 over 2) → ⊥
+
+pub shown : Shown
+unfolding ofBits
+shown = record {
+  number = refl;
+  close = record { proper = (lit< tt, lit< tt); near = lit≤ tt };
+  not-close = (λ c. absurd (le→leb _ _ (c .near)));
+}
 
 -- ---- 'the whole answer made a 64-bit float without loss'
 pub without-loss : (n : ℤ) → isFourBytes n ≡ true → Within 0 1 (valueOf (ofInt binary64 n)) n
@@ -36,6 +50,11 @@ without-loss n h = whole-exact n (le-trans (answers.four-bytes-size n h) (lit≤
 pub divisors : (valueOf (ofBits binary64 0x40f8_6a00_0000_0000) ≡ whole (pos 100000)) × (valueOf (ofBits binary64 0x408f_4000_0000_0000) ≡ whole (pos 1000))
 unfolding ofBits
 divisors = (refl, refl)
+
+-- and the zero of a refusal is no -0
+pub zero-worked : zero ≡ ofBits binary64 0x0000_0000_0000_0000
+unfolding ofInt ofBits round
+zero-worked = refl
 
 -- ---- 'rounded by IEEE 754': whole answers, and the bits of their floats
 abbrev angles : List (ℤ × ℕ)

@@ -1,6 +1,8 @@
 -- Document 01, 'Floating numbers for the map program'.
+use mathlib.Core.List.{List, [], _∷_}
 use Prim.Native.Nat.{ℕ}
 use lib.IntN.{ℤ, pos}
+use lib.ListN.{getD}
 use lib.Ieee.{Float, binary64, div, ofInt}
 use Rattle.kinds.specs.Answer.{Answer, gives, refused}
 use Rattle.datum.specs.Page.{Family, shift, geoid}
@@ -34,22 +36,20 @@ floatingOf code latitude longitude = allInFloats (answerOf code latitude longitu
 abbrev pub zero : Float
 zero = ofInt binary64 (pos 0)
 
--- the first is dLat or N
-abbrev pub firstOf : Answer (Family Float) → Float
-firstOf (gives (shift dLat dLon dH)) = dLat
-firstOf (gives (geoid n)) = n
-firstOf (refused n) = zero
+-- the first is dLat or N, the second and third are zero for a geoid height, and all are zero where the point is refused
+abbrev pub valuesOf : Answer (Family Float) → List Float
+valuesOf (gives (shift dLat dLon dH)) = dLat ∷ dLon ∷ dH ∷ []
+valuesOf (gives (geoid n)) = n ∷ zero ∷ zero ∷ []
+valuesOf (refused n) = zero ∷ zero ∷ zero ∷ []
 
--- the second and third are zero for a geoid height, and all are zero where the point is refused
+abbrev pub firstOf : Answer (Family Float) → Float
+firstOf answer = getD (valuesOf answer) 0 zero
+
 abbrev pub secondOf : Answer (Family Float) → Float
-secondOf (gives (shift dLat dLon dH)) = dLon
-secondOf (gives (geoid n)) = zero
-secondOf (refused n) = zero
+secondOf answer = getD (valuesOf answer) 1 zero
 
 abbrev pub thirdOf : Answer (Family Float) → Float
-thirdOf (gives (shift dLat dLon dH)) = dH
-thirdOf (gives (geoid n)) = zero
-thirdOf (refused n) = zero
+thirdOf answer = getD (valuesOf answer) 2 zero
 
 -- the fourth call: the point's refusal number, or 0 for an answered point
 abbrev pub refusalOf : Answer (Family Float) → ℕ

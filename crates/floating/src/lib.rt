@@ -5,7 +5,7 @@ use kinds::AngleShift;
 use kinds::Height;
 ghost use mathlib.Core.Path.{_≡_};
 ghost use Rattle.datum.specs.Cases.{shiftSays};
-ghost use Rattle.floating.specs.Floats.{seconds, metres, inFloats, floatingOf, firstOf, secondOf, thirdOf, refusalOf};
+ghost use Rattle.floating.specs.Floats.{seconds, metres, inFloats, floatingOf, valuesOf, firstOf, secondOf, thirdOf, refusalOf};
 ghost use Rattle.floating.specs.Cases.{floatsSay, floatAnswer};
 
 // The shifts of a point: of latitude and longitude in seconds, of height in metres.
@@ -39,33 +39,21 @@ pub fn floating(code: i64, latitude: i64, longitude: i64) -> Answer
 pub fn first(code: i64, latitude: i64, longitude: i64) -> f64
     ensures { λ r. ⌜ r ≡ firstOf (floatingOf code latitude longitude) ⌝ }
 {
-    match floating(code, latitude, longitude) {
-        Answer::Shift(shift) => shift.latitude,
-        Answer::Geoid(height) => height,
-        Answer::Refused(_) => 0.0,
-    }
+    floating(code, latitude, longitude).values()[0]
 }
 
 // dLon in seconds; 0 of a geoid datum, and where the point is refused.
 pub fn second(code: i64, latitude: i64, longitude: i64) -> f64
     ensures { λ r. ⌜ r ≡ secondOf (floatingOf code latitude longitude) ⌝ }
 {
-    match floating(code, latitude, longitude) {
-        Answer::Shift(shift) => shift.longitude,
-        Answer::Geoid(_) => 0.0,
-        Answer::Refused(_) => 0.0,
-    }
+    floating(code, latitude, longitude).values()[1]
 }
 
 // dH in metres; 0 of a geoid datum, and where the point is refused.
 pub fn third(code: i64, latitude: i64, longitude: i64) -> f64
     ensures { λ r. ⌜ r ≡ thirdOf (floatingOf code latitude longitude) ⌝ }
 {
-    match floating(code, latitude, longitude) {
-        Answer::Shift(shift) => shift.height,
-        Answer::Geoid(_) => 0.0,
-        Answer::Refused(_) => 0.0,
-    }
+    floating(code, latitude, longitude).values()[2]
 }
 
 // The number of the point's refusal, or 0 where it is answered.
@@ -76,6 +64,19 @@ pub fn refusal(code: i64, latitude: i64, longitude: i64) -> u8
         Answer::Shift(_) => 0,
         Answer::Geoid(_) => 0,
         Answer::Refused(number) => number,
+    }
+}
+
+impl Answer {
+    // dLat, dLon and dH; or N and two zeros; or three zeros where the point is refused.
+    fn values(self) -> [f64; 3]
+        ensures { λ r. ⌜ r ≡ valuesOf (floatAnswer self) ⌝ }
+    {
+        match self {
+            Answer::Shift(shift) => [shift.latitude, shift.longitude, shift.height],
+            Answer::Geoid(height) => [height, 0.0, 0.0],
+            Answer::Refused(_) => [0.0, 0.0, 0.0],
+        }
     }
 }
 

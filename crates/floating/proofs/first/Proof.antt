@@ -1,42 +1,23 @@
 -- `floating::first` meets its contract. Assumes nothing.
-use mathlib.Core.Path.{ap, _∙_}
-use Rattle.floating.specs.Floats.{firstOf}
-use Rattle.floating.proofs.Calls.{no-value, found}
+use lib.Dec.{lit<}
 use borrow.Author.Needs.{needs}
+use Rattle.floating.proofs.Calls.{value-at}
 use Rattle.floating.proofs.first.Statement.{statement}
 use Rattle.floating.proofs.first.Tie as tie
 
 floating-requires : tie.Need-floating-requires
 floating-requires c κs = search needs
 
-enum-known-shift : tie.Need-enum-known-shift
-enum-known-shift c = search needs
+values-requires : tie.Need-values-requires
+values-requires c κs = search needs
 
-enum-known-height : tie.Need-enum-known-height
-enum-known-height c = search needs
-
-enum-told : tie.Need-enum-told
-enum-told c = search needs
+array-read-result : tie.Need-array-read-result
+array-read-result c = search needs
 
 returns : tie.Need-returns
 returns c =
-    let call = c .before .before .before in
-    let s = call .before in
-    ap firstOf (found (s .fits .code) (s .fits .latitude) (s .fits .longitude) (call .floating .ensures) (c .before .shift .given .1))
-
-returns-2 : tie.Need-returns-2
-returns-2 c =
-    let call = c .before .before .before in
-    let s = call .before in
-    ap firstOf (found (s .fits .code) (s .fits .latitude) (s .fits .longitude) (call .floating .ensures) (c .before .height .given .1))
-
-returns-3 : tie.Need-returns-3
-returns-3 c =
-    let call = c .before .before in
-    let s = call .before in
-    no-value ∙ ap firstOf (found (s .fits .code) (s .fits .latitude) (s .fits .longitude) (call .floating .ensures) (c .enum-told .given .1))
+    let s = c .before .before in
+    value-at (s .fits .code) (s .fits .latitude) (s .fits .longitude) 0 (lit< tt) (c .before .floating .result) (c .before .floating .ensures) (c .values .ensures)
 
 pub first-spec : {M : Type 1} → statement M
-first-spec =
-    tie.close
-    (tie.spec floating-requires enum-known-shift enum-known-height enum-told returns returns-2 returns-3)
+first-spec = tie.close (tie.spec floating-requires values-requires array-read-result returns)
