@@ -8,7 +8,7 @@ import re
 import sys
 
 COLUMNS = ['promise', 'definition', 'function', 'theorem', 'must-fail edits', 'run']
-FINISHED = ['Positions', 'The six areas', 'The working rule']
+FINISHED = ['Positions', 'The six areas', 'The working rule', 'Floating numbers']
 
 
 def declared(pattern, expression):

@@ -18,7 +18,7 @@ use Rattle.equation.proofs.Fractions.{within-wider, within-both}
 use Rattle.datum.specs.Page.{Family, shift, geoid, each}
 use Rattle.datum.specs.Exact.{AllWithin}
 use Rattle.datum.proofs.Families.{shift-so, geoid-so}
-use Rattle.floating.specs.Floats.{_dividedBy_, seconds, metres, inFloats, allInFloats, refusalOf}
+use Rattle.floating.specs.Floats.{_dividedBy_, seconds, metres, inFloats, answerInFloats, refusalOf}
 use Rattle.floating.specs.Value.{Close, inUnits, AllClose}
 use Rattle.floating.proofs.Quotients.{quotient-near, same-whole}
 
@@ -80,20 +80,20 @@ all-close exacts (shift a b c) h w =
 all-close exacts (geoid a) h w = geoid-so exacts (λ n e. float-close 1000 999 1 (lit< tt) (lit≤ tt) (lit≤ tt) a h e) w
 
 -- ---- of an answer
-pub gave : (whole : Answer (Family ℤ)) {floats : Family Float} → allInFloats whole ≡ gives floats → (values : Family ℤ) × ((whole ≡ gives values) × (inFloats values ≡ floats))
+pub gave : (whole : Answer (Family ℤ)) {floats : Family Float} → answerInFloats whole ≡ gives floats → (values : Family ℤ) × ((whole ≡ gives values) × (inFloats values ≡ floats))
 gave (gives values) h = (values, (refl, same-value h))
 gave (refused n) h = absurd (not-both (sym h))
 
-pub same-answers : (v w : Answer (Family ℤ)) → ((values : Family ℤ) → v ≡ gives values → each isFourBytes values ≡ true) → ((values : Family ℤ) → w ≡ gives values → each isFourBytes values ≡ true) → allInFloats v ≡ allInFloats w → v ≡ w
+pub same-answers : (v w : Answer (Family ℤ)) → ((values : Family ℤ) → v ≡ gives values → each isFourBytes values ≡ true) → ((values : Family ℤ) → w ≡ gives values → each isFourBytes values ≡ true) → answerInFloats v ≡ answerInFloats w → v ≡ w
 same-answers (gives a) (gives b) h k s = ap gives (same-values a b (h a refl) (k b refl) (same-value s))
 same-answers (refused n) (refused m) h k s = ap refused cc
 same-answers (gives a) (refused m) h k s = absurd (not-both s)
 same-answers (refused n) (gives b) h k s = absurd (not-both (sym s))
 
-pub was-refused : (whole : Answer (Family ℤ)) {n : ℕ} → allInFloats whole ≡ refused n → whole ≡ refused n
+pub was-refused : (whole : Answer (Family ℤ)) {n : ℕ} → answerInFloats whole ≡ refused n → whole ≡ refused n
 was-refused (gives values) h = absurd (not-both h)
 was-refused (refused m) h = ap refused cc
 
-pub not-refused : (whole : Answer (Family ℤ)) → ((n : ℕ) → whole ≡ refused n → 0 < n) → refusalOf (allInFloats whole) ≡ 0 → (floats : Family Float) × (allInFloats whole ≡ gives floats)
+pub not-refused : (whole : Answer (Family ℤ)) → ((n : ℕ) → whole ≡ refused n → 0 < n) → refusalOf (answerInFloats whole) ≡ 0 → (floats : Family Float) × (answerInFloats whole ≡ gives floats)
 not-refused (gives values) above h = (inFloats values, refl)
 not-refused (refused n) above h = absurd (omega (arith, above n refl, h))

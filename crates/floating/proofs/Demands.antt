@@ -19,13 +19,13 @@ use Rattle.datum.specs.Exact.{exact, boundsOf}
 use Rattle.datum.proofs.Codes.{six}
 use Rattle.datum.proofs.Errors.{no-narrower, all-widened}
 use Rattle.datum.proofs.Demands as datum
-use Rattle.floating.specs.Floats.{seconds, metres, zero, inFloats, allInFloats, floatingOf, firstOf, secondOf, thirdOf, refusalOf}
+use Rattle.floating.specs.Floats.{seconds, metres, zero, inFloats, answerInFloats, floatingOf, firstOf, secondOf, thirdOf, refusalOf}
 use Rattle.floating.specs.Cases.{floatsSay, floatAnswer}
-use Rattle.floating.specs.Value.{valueOf, Close, AllClose}
+use Rattle.floating.specs.Value.{valueOf, Close, inUnits, AllClose}
 use Rattle.floating.specs.declared.ShiftFloats.{ShiftFloats}
 use Rattle.floating.specs.declared.Answer.{Answer}
 use Rattle.floating.specs.declared.Answer.the-variants.{Shift, Geoid, Refused}
-use Rattle.floating.proofs.Quotients.{whole-exact}
+use Rattle.floating.proofs.Quotients.{whole-exact, quotient-near}
 use Rattle.floating.proofs.Answers as answers
 
 -- ---- what a float's number and 'within' mean, shown: -0.75 is -3 / 4; 1 / 2 and 3 / 2 are within 1 of each other, and not within 1 / 2
@@ -88,11 +88,17 @@ unfolding div ofInt ofBits round
 metres-worked = refl
 
 -- ---- the map program gets the handheld's answer and no other
--- of two whole numbers with equal floats, which are equal
+-- the float is as near to the whole answer as this, in its units
+pub near-whole : (n : ℤ) → isFourBytes n ≡ true → Within 1 4194304 (inUnits 100000 (seconds n)) n × Within 1 4194304 (inUnits 1000 (metres n)) n
+near-whole n h =
+    let size = answers.four-bytes-size n h in
+    (quotient-near 100000 (lit< tt) (lit≤ tt) n size, quotient-near 1000 (lit< tt) (lit≤ tt) n size)
+
+-- two whole numbers with one float are one
 pub nothing-lost : (n m : ℤ) → isFourBytes n ≡ true → isFourBytes m ≡ true → (seconds n ≡ seconds m → n ≡ m) × (metres n ≡ metres m → n ≡ m)
 nothing-lost n m h k = (answers.same-seconds n m h k, answers.same-metres n m h k)
 
--- and of two points
+-- and two points with one floating answer have one whole answer
 pub same-answer : (c b l d e m : ℤ) → floatingOf c b l ≡ floatingOf d e m → answerOf c b l ≡ answerOf d e m
 same-answer c b l d e m = answers.same-answers (answerOf c b l) (answerOf d e m) (λ values. datum.four-bytes isEither c b l {values = values}) (λ values. datum.four-bytes isEither d e m {values = values})
 
@@ -101,12 +107,12 @@ module _ (code latitude longitude : ℤ) where
   pub answered : (floats : Family Float) → (floatingOf code latitude longitude ≡ gives floats) ↔ ((values : Family ℤ) × ((answerOf code latitude longitude ≡ gives values) × (inFloats values ≡ floats)))
   answered floats = (
     answers.gave (answerOf code latitude longitude),
-    (λ p. ap allInFloats (p .1 .0) ∙ ap gives (p .1 .1)),
+    (λ p. ap answerInFloats (p .1 .0) ∙ ap gives (p .1 .1)),
   )
 
   -- 'a refusal number' is the whole answer's, and is never 5
   pub same-refusal : (n : ℕ) → (floatingOf code latitude longitude ≡ refused n) ↔ (answerOf code latitude longitude ≡ refused n)
-  same-refusal n = (answers.was-refused (answerOf code latitude longitude), ap allInFloats)
+  same-refusal n = (answers.was-refused (answerOf code latitude longitude), ap answerInFloats)
 
   pub never-5 : floatingOf code latitude longitude ≡ refused 5 → ⊥
   never-5 h = datum.answer-never-5 code latitude longitude (same-refusal 5 .0 h)

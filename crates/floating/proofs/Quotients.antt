@@ -40,7 +40,7 @@ closest-near a b B = go (compare (a % b * 2) b) (leb→le (a % b * 2) b) (nleb�
     go Ordering·gt h k e s r = let above : b < a % b * 2 = k tt in (omega arith, omega arith)
 
 -- ---- a / c, in units of which L make 1, rounded to p digits
--- the last digit that is kept is small beside L, where a is at most A
+-- Where a is at most A, and p digits are enough for A * M, the last digit that is kept is at most L / M.
 module _ (p a A c L M : ℕ) (P : 0 < p) (C : 0 < c) (O : 0 < A) (most : a ≤ A) (digits : A * M ≤ 2 ^ (p - 1)) (fine : c * M ≤ L) where
   digit-small : (k : ℕ) → k ≡ drop p (a * L) c → c * 2 ^ k * M ≤ L
   digit-small zero e = subst (λ (x : ℕ). c * x * M ≤ L) (sym (pow-zero 2)) (subst (λ (x : ℕ). x * M ≤ L) (sym (mul-one c)) fine)
@@ -74,15 +74,17 @@ module _ (p a A c L M : ℕ) (P : 0 < p) (C : 0 < c) (O : 0 < A) (most : a ≤ A
       beyond : (x d : ℕ) → M * (2 * (a * L)) ≤ M * (2 * (x * (c * d)) + c * d) → c * d * M ≤ L → 2 * M * (a * L) ≤ 2 * M * (x * d * c) + L
       beyond x d h s = omega arith
 
--- ---- a quotient as a float: g of the smallest values of which `one` make 1, with g * c near a * one
+-- ---- a quotient as a float: so many of the smallest values, of which `one` make 1, that c times as many are near a * one
+-- A float has 53 digits. A number of 4 bytes takes up to 31 before the point, which leaves 2 ^ 21 for M, and rounding errs by half
+-- a digit: so 2 ^ 22 = 4194304.
 abbrev one : ℕ
 one = 2 ^ 1074
 
-pub record Near (x : Float) (s : Bool) (a c : ℕ) : Type 0 where
-  pub grains : ℕ
-  pub value : HasValue x s grains one
-  pub at-most : 4194304 * (grains * c) ≤ 4194304 * (a * one) + one
-  pub at-least : 4194304 * (a * one) ≤ 4194304 * (grains * c) + one
+record Near (x : Float) (s : Bool) (a c : ℕ) : Type 0 where
+  grains : ℕ
+  value : HasValue x s grains one
+  at-most : 4194304 * (grains * c) ≤ 4194304 * (a * one) + one
+  at-least : 4194304 * (a * one) ≤ 4194304 * (grains * c) + one
 
 near-limit : (g a c l : ℕ) → 0 < c → a ≤ 2147483648 → 4194304 * (g * c) ≤ 4194304 * (a * l) + l → g ≤ 4294967296 * l
 near-limit g a c l C h n =

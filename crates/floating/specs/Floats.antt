@@ -25,12 +25,12 @@ inFloats (shift dLat dLon dH) = shift (seconds dLat) (seconds dLon) (metres dH)
 inFloats (geoid n) = geoid (metres n)
 
 -- or a refusal number
-abbrev pub allInFloats : Answer (Family ℤ) → Answer (Family Float)
-allInFloats (gives values) = gives (inFloats values)
-allInFloats (refused n) = refused n
+abbrev pub answerInFloats : Answer (Family ℤ) → Answer (Family Float)
+answerInFloats (gives values) = gives (inFloats values)
+answerInFloats (refused n) = refused n
 
 abbrev pub floatingOf : ℤ → ℤ → ℤ → Answer (Family Float)
-floatingOf code latitude longitude = allInFloats (answerOf code latitude longitude)
+floatingOf code latitude longitude = answerInFloats (answerOf code latitude longitude)
 
 -- ---- a call for each of three floating values
 abbrev pub zero : Float
