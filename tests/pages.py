@@ -1,5 +1,5 @@
 #!/usr/bin/env python3
-"""What the program `pages` must print, worked out from the papers with Python's fractions and regular expressions.
+"""What the program `pages` must print, worked out from the papers with Python's fractions, regular expressions and floats.
 
     python3 tests/pages.py           prints it
     python3 tests/pages.py --check   holds it to crates/pages/stdout, to which the gate holds the program,
@@ -165,7 +165,7 @@ def worked(code, latitude, longitude, slip=''):
     return ' '.join(map(str, answers))
 
 
-# As floats: whole numbers around the ends of 4 bytes, zero and a whole second.
+# As floats: the ends of 4 bytes, numbers around zero and around a whole second, and two of document 01's answers.
 MADE = [-2 ** 31, -384_288, -979, -3, -1, 0, 1, 3, 99_999, 100_000, 100_001, 2 ** 31 - 1]
 ANGLE, HEIGHT = 100_000, 1000  # units in a second and in a metre
 
@@ -290,7 +290,7 @@ def beside(found, printed):
     found, printed = found.split(), printed.split()
     for k, (x, y) in enumerate(zip(found, printed)):
         height = k == len(printed) - 1
-        unit, near = (1000, 5) if height else (100_000, 50)
+        unit, near = (HEIGHT, 5) if height else (ANGLE, 50)
         yield x, y, abs(int(x) - Fraction(y) * unit) <= near
 
 

@@ -16,7 +16,7 @@ use Rattle.equation.specs.Exact.{whole, _times_, _to-the_, exactOf, Within, Bey
 use Rattle.equation.proofs.Fractions.{reaches}
 use Rattle.equation.proofs.Demands as equation
 use Rattle.datum.specs.Page.{Page, Family, shift, geoid, isShift, isGeoid, isEither, each, Each, OfShift, OfGeoid}
-use Rattle.datum.specs.Point.{isCode, pages, pageOf, inArea, inRange, evaluated, worked, pointOf, asked, answerOf, shiftOf, geoidOf}
+use Rattle.datum.specs.Point.{isCode, pages, pageOf, inArea, inRange, evaluated, worked, pointOf, asked, answerOf, shiftOf, geoidOf, valuesOf}
 use Rattle.datum.specs.Exact.{exact, AllWithin, demanded, boundsOf}
 use Rattle.datum.specs.Tables.{counted, inAll, stands, Reordered, ends, every}
 use Rattle.datum.specs.Cases.{shiftAnswer, geoidAnswer, pointAnswer}
@@ -109,6 +109,12 @@ family-tested family code latitude longitude = go (isCode code)
     go : (b : Bool) → provided b 4 (provided (isAsked family code latitude longitude) 5 point) ≡ provided b 4 (provided (isAsked family code latitude longitude) 5 (provided b 4 point))
     go true = refl
     go false = refl
+
+-- ---- 'dLat, dLon, dH, or N and two zeros'; and three zeros where the point is refused
+pub three-values : {A : Type 0} (none a b c : A) (n : ℕ)
+    → (valuesOf none (gives (shift a b c)) ≡ a ∷ b ∷ c ∷ []) × (valuesOf none (gives (geoid a)) ≡ a ∷ none ∷ none ∷ [])
+    × (valuesOf none (refused n) ≡ none ∷ none ∷ none ∷ [])
+three-values none a b c n = (refl, refl, refl)
 
 -- ---- the answers fit 4 bytes
 pub four-bytes : (family : Family (List Term) → Bool) (code latitude longitude : ℤ) {values : Family ℤ} → asked family code latitude longitude ≡ gives values → each isFourBytes values ≡ true

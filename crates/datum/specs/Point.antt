@@ -5,11 +5,11 @@ use Prim.Native.Nat.{ℕ, _-_}
 use lib.IntN.{ℤ, pos, natAbs, _-ℤ_, _*ℤ_}
 use lib.ListN.{getD}
 use Rattle.whole.specs.Round.{roundDiv, scale}
-use Rattle.kinds.specs.Answer.{Answer, gives, provided}
+use Rattle.kinds.specs.Answer.{Answer, gives, refused, provided}
 use Rattle.kinds.specs.Kinds.{within, isLatitude, isLongitude}
 use Rattle.equation.specs.Powers.{powersOf}
 use Rattle.equation.specs.Equation.{Term, equationOf}
-use Rattle.datum.specs.Page.{Page, Family, isShift, isGeoid, isEither, ofEach}
+use Rattle.datum.specs.Page.{Page, Family, shift, geoid, isShift, isGeoid, isEither, ofEach}
 use Rattle.datum.specs.Cyprus.{cyprus}
 use Rattle.datum.specs.Minna.{minna}
 use Rattle.datum.specs.Alaska.{alaska}
@@ -82,3 +82,22 @@ geoidOf code latitude longitude = asked isGeoid code latitude longitude
 -- both families are taken
 abbrev pub answerOf : ℤ → ℤ → ℤ → Answer (Family ℤ)
 answerOf code latitude longitude = asked isEither code latitude longitude
+
+-- ---- an answer as three values: dLat, dLon and dH, or N and two that are none, or three that are none where the point is refused
+abbrev pub firstOf : {A : Type 0} → A → Answer (Family A) → A
+firstOf none (gives (shift dLat dLon dH)) = dLat
+firstOf none (gives (geoid n)) = n
+firstOf none (refused r) = none
+
+abbrev pub secondOf : {A : Type 0} → A → Answer (Family A) → A
+secondOf none (gives (shift dLat dLon dH)) = dLon
+secondOf none (gives (geoid n)) = none
+secondOf none (refused r) = none
+
+abbrev pub thirdOf : {A : Type 0} → A → Answer (Family A) → A
+thirdOf none (gives (shift dLat dLon dH)) = dH
+thirdOf none (gives (geoid n)) = none
+thirdOf none (refused r) = none
+
+abbrev pub valuesOf : {A : Type 0} → A → Answer (Family A) → List A
+valuesOf none answer = firstOf none answer ∷ secondOf none answer ∷ thirdOf none answer ∷ []

@@ -84,7 +84,7 @@ within-both {h} {k} {n} {x} f g v w =
           abs-* (x *ℤ pos a -ℤ t) (pos b),
         )
 
--- two numbers near one fraction are one
+-- two numbers near one fraction, together nearer than 1, are one
 pub one-number : {h k n : ℕ} {f : Fraction} (x y : ℤ) → h + k < n → Within h n f x → Within k n f y → x ≡ y
 one-number {h} {k} {n} {f} x y s v w = abs-zero x y (none (natAbs (x -ℤ y)) (omega (arith, mul-le-mul-left n (apart (f .top) (f .bottom)), v .near, w .near)))
   where

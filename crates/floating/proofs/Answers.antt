@@ -1,91 +1,110 @@
 -- Whole answers and their floats: what is known of the ones by the others. Assumes nothing.
-use mathlib.Core.Path.{_≡_, refl, sym, ap}
-use mathlib.Core.Bool.{Bool, true, _&&_}
+use mathlib.Core.Path.{_≡_, refl, sym, ap, subst}
+use mathlib.Core.Bool.{Bool, true, false}
 use Prim.Native.Nat.{ℕ, _+_, _*_, _^_, _≤_, _<_}
-use native.Mathlib.Nat.{mul-le-mul-right}
+use native.Mathlib.Nat.{mul-le-mul-left, mul-le-mul-right, le-of-mul-le-mul-left}
 use native.Mathlib.Omega.{arith}
-use lib.Dec.{lit<, lit≤}
+use lib.Dec.{T, leb, leb→le, lit<, lit≤}
 use lib.IntN.{ℤ, natAbs}
 use lib.Ieee.{Float}
-use Rattle.whole.proofs.Bools.{both}
 use Rattle.whole.proofs.Words.{sized}
-use Rattle.kinds.specs.Answer.{Answer, gives, refused}
+use Rattle.kinds.specs.Answer.{Answer, gives, refused, refusalOf}
 use Rattle.kinds.specs.Kinds.{isFourBytes}
 use Rattle.kinds.proofs.Answers.{not-both, same-value}
 use Rattle.kinds.proofs.Tested.{of-four-bytes}
 use Rattle.equation.specs.Exact.{Fraction, Within}
 use Rattle.equation.proofs.Fractions.{within-wider, within-both}
-use Rattle.datum.specs.Page.{Family, shift, geoid, each}
+use Rattle.datum.specs.Page.{Family, shift, geoid, ofEach, each, Each}
 use Rattle.datum.specs.Exact.{AllWithin}
-use Rattle.datum.proofs.Families.{shift-so, geoid-so}
-use Rattle.floating.specs.Floats.{_dividedBy_, seconds, metres, inFloats, answerInFloats, refusalOf}
-use Rattle.floating.specs.Value.{Close, inUnits, AllClose}
+use Rattle.datum.proofs.Families.{three, each-by, shift-so, geoid-so}
+use Rattle.datum.proofs.Errors.{no-narrower}
+use Rattle.floating.specs.Floats.{_dividedBy_, perSecond, perMetre, seconds, metres, inFloats, answerInFloats}
+use Rattle.floating.specs.Value.{NearTo, inUnits, AllNear}
 use Rattle.floating.proofs.Quotients.{quotient-near, same-whole}
 
--- ---- of a number held in 4 bytes
-pub four-bytes-size : (n : ℤ) → isFourBytes n ≡ true → natAbs n ≤ 2147483648
-four-bytes-size n h = sized n (of-four-bytes n h)
+-- ---- of numbers held in 4 bytes
+abbrev Held : ℤ → Type 0
+Held n = natAbs n ≤ 2147483648
 
-module _ (n m : ℤ) (h : isFourBytes n ≡ true) (k : isFourBytes m ≡ true) where
+pub held : (n : ℤ) → isFourBytes n ≡ true → Held n
+held n h = sized n (of-four-bytes n h)
+
+all-held : (values : Family ℤ) → each isFourBytes values ≡ true → Each Held values
+all-held values h = each-by isFourBytes (λ n t. held n (yes (isFourBytes n) t)) values (subst T (sym h) tt)
+  where
+    yes : (b : Bool) → T b → b ≡ true
+    yes true t = refl
+    yes false t = absurd t
+
+-- ---- no two have one float
+module _ (n m : ℤ) (h : Held n) (k : Held m) where
   pub same-seconds : seconds n ≡ seconds m → n ≡ m
-  same-seconds = same-whole 100000 (lit< tt) (lit≤ tt) n m (four-bytes-size n h) (four-bytes-size m k)
+  same-seconds = same-whole perSecond (lit< tt) (lit≤ tt) n m h k
 
   pub same-metres : metres n ≡ metres m → n ≡ m
-  same-metres = same-whole 1000 (lit< tt) (lit≤ tt) n m (four-bytes-size n h) (four-bytes-size m k)
+  same-metres = same-whole perMetre (lit< tt) (lit≤ tt) n m h k
 
--- ---- of a family
-three : {a b c : Bool} → a && (b && c) ≡ true → (a ≡ true) × (b ≡ true) × (c ≡ true)
-three {a} {b} {c} h =
-    let p = both a (b && c) h in
-    let q = both b c (p .1) in
-    (p .0, q .0, q .1)
-
-pub same-values : (v w : Family ℤ) → each isFourBytes v ≡ true → each isFourBytes w ≡ true → inFloats v ≡ inFloats w → v ≡ w
+same-values : (v w : Family ℤ) → Each Held v → Each Held w → inFloats v ≡ inFloats w → v ≡ w
 same-values (shift a b c) (shift d e f) h k s =
     let x : seconds a ≡ seconds d = cc in
     let y : seconds b ≡ seconds e = cc in
     let z : metres c ≡ metres f = cc in
-    let p = three h in
-    let q = three k in
-    λ i. shift (same-seconds a d (p .0) (q .0) x i) (same-seconds b e (p .1) (q .1) y i) (same-metres c f (p .2) (q .2) z i)
+    λ i. shift (same-seconds a d (h .0) (k .0) x i) (same-seconds b e (h .1) (k .1) y i) (same-metres c f (h .2) (k .2) z i)
 same-values (geoid a) (geoid b) h k s = ap geoid (same-metres a b h k cc)
 same-values (shift a b c) (geoid d) h k s = absurd (let z : _≡_ {A = ℕ} 0 1 = cc in omega arith)
 same-values (geoid a) (shift d e f) h k s = absurd (let z : _≡_ {A = ℕ} 0 1 = cc in omega arith)
 
--- ---- how near: a whole answer's float is as near to an exact value as the answer, and a thousandth of a unit
-float-close : (units h o : ℕ) → 0 < units → units ≤ 2 ^ 53 → h + 1 ≤ o * 1000 → {f : Fraction} (n : ℤ) → isFourBytes n ≡ true → Within h 1000 f n → Close o 1 f (inUnits units (n dividedBy units))
-float-close units h o p d s {f} n four w =
-    let v = within-wider 1 1000 (lit< tt) (lit≤ tt) (quotient-near units p d n (four-bytes-size n four)) in
-    let g = inUnits units (n dividedBy units) in
+-- ---- how near to an exact value
+-- a float is as near as its whole answer, but for a thousandth of a unit
+float-near : (units h : ℕ) → 0 < units → units ≤ 2 ^ 53 → {f : Fraction} (n : ℤ) → Held n → Within h 1000 f n
+    → NearTo (h + 1) 1000 f (inUnits units (n dividedBy units))
+float-near units h p d {f} n held w =
+    let v = within-wider 1 1000 (lit< tt) (lit≤ tt) (quotient-near units p d n held) in
     record {
       proper = (w .proper, v .proper);
-      near = omega (arith, within-both f g w v, mul-le-mul-right (f .bottom * g .bottom) s);
+      near = within-both f (inUnits units (n dividedBy units)) w v;
     }
 
--- what demand 3 leaves for that
-abbrev pub spared : {A : Type 0} → Family A → Family ℕ
-spared (shift a b c) = shift 1999 1999 999
-spared (geoid n) = geoid 999
+pub floats-near : (bounds : Family ℕ) (exacts : Family Fraction) (values : Family ℤ) → each isFourBytes values ≡ true
+    → AllWithin 1000 bounds exacts values → AllNear 1000 (ofEach (λ h. h + 1) bounds) exacts (inFloats values)
+floats-near bounds exacts values four = go bounds values (all-held values four)
+  where
+    go : (bounds : Family ℕ) (values : Family ℤ) → Each Held values → AllWithin 1000 bounds exacts values → AllNear 1000 (ofEach (λ h. h + 1) bounds) exacts (inFloats values)
+    go (shift h i j) (shift a b c) p =
+        shift-so exacts
+        (λ dLat dLon dH w. (
+          float-near perSecond h (lit< tt) (lit≤ tt) a (p .0) (w .0),
+          float-near perSecond i (lit< tt) (lit≤ tt) b (p .1) (w .1),
+          float-near perMetre j (lit< tt) (lit≤ tt) c (p .2) (w .2),
+        ))
+    go (geoid h) (geoid a) p = geoid-so exacts (λ n w. float-near perMetre h (lit< tt) (lit≤ tt) a p w)
+    go (shift h i j) (geoid a) p = λ w. w
+    go (geoid h) (shift a b c) p = λ w. w
 
-pub all-close : (exacts : Family Fraction) (values : Family ℤ) → each isFourBytes values ≡ true → AllWithin 1000 (spared values) exacts values → AllClose exacts (inFloats values)
-all-close exacts (shift a b c) h w =
-    let p = three h in
-    shift-so exacts
-    (λ dLat dLon dH e. (
-      float-close 100000 1999 2 (lit< tt) (lit≤ tt) (lit≤ tt) a (p .0) (e .0),
-      float-close 100000 1999 2 (lit< tt) (lit≤ tt) (lit≤ tt) b (p .1) (e .1),
-      float-close 1000 999 1 (lit< tt) (lit≤ tt) (lit≤ tt) c (p .2) (e .2),
-    ))
-    w
-all-close exacts (geoid a) h w = geoid-so exacts (λ n e. float-close 1000 999 1 (lit< tt) (lit≤ tt) (lit≤ tt) a h e) w
+-- wider bounds, in other parts of a unit
+module _ (n m : ℕ) (p : 0 < n) where
+  wider : {f g : Fraction} (h o : ℕ) → T (leb (m * h) (o * n)) → NearTo h n f g → NearTo o m f g
+  wider {f} {g} h o t w = record {
+    proper = w .proper;
+    near = le-of-mul-le-mul-left {k = n} (omega (arith, mul-le-mul-left m (w .near), mul-le-mul-right (f .bottom * g .bottom) (leb→le (m * h) (o * n) t))) p;
+  }
+
+  pub all-wider : (narrow wide : Family ℕ) (exacts : Family Fraction) (floats : Family Float) → T (no-narrower n m narrow wide) → AllNear n narrow exacts floats → AllNear m wide exacts floats
+  all-wider (shift h i j) (shift o q r) exacts floats test =
+      let t = three (leb (m * h) (o * n)) (leb (m * i) (q * n)) (leb (m * j) (r * n)) test in
+      shift-so exacts (λ dLat dLon dH. shift-so floats (λ a b c w. (wider h o (t .0) (w .0), wider i q (t .1) (w .1), wider j r (t .2) (w .2))))
+  all-wider (geoid h) (geoid o) exacts floats test = geoid-so exacts (λ height. geoid-so floats (λ a. wider h o test))
+  all-wider (shift h i j) (geoid o) exacts floats test = absurd test
+  all-wider (geoid h) (shift o q r) exacts floats test = absurd test
 
 -- ---- of an answer
 pub gave : (whole : Answer (Family ℤ)) {floats : Family Float} → answerInFloats whole ≡ gives floats → (values : Family ℤ) × ((whole ≡ gives values) × (inFloats values ≡ floats))
 gave (gives values) h = (values, (refl, same-value h))
 gave (refused n) h = absurd (not-both (sym h))
 
-pub same-answers : (v w : Answer (Family ℤ)) → ((values : Family ℤ) → v ≡ gives values → each isFourBytes values ≡ true) → ((values : Family ℤ) → w ≡ gives values → each isFourBytes values ≡ true) → answerInFloats v ≡ answerInFloats w → v ≡ w
-same-answers (gives a) (gives b) h k s = ap gives (same-values a b (h a refl) (k b refl) (same-value s))
+pub same-answers : (v w : Answer (Family ℤ)) → ((values : Family ℤ) → v ≡ gives values → each isFourBytes values ≡ true)
+    → ((values : Family ℤ) → w ≡ gives values → each isFourBytes values ≡ true) → answerInFloats v ≡ answerInFloats w → v ≡ w
+same-answers (gives a) (gives b) h k s = ap gives (same-values a b (all-held a (h a refl)) (all-held b (k b refl)) (same-value s))
 same-answers (refused n) (refused m) h k s = ap refused cc
 same-answers (gives a) (refused m) h k s = absurd (not-both s)
 same-answers (refused n) (gives b) h k s = absurd (not-both (sym s))
@@ -94,6 +113,7 @@ pub was-refused : (whole : Answer (Family ℤ)) {n : ℕ} → answerInFloats who
 was-refused (gives values) h = absurd (not-both h)
 was-refused (refused m) h = ap refused cc
 
-pub not-refused : (whole : Answer (Family ℤ)) → ((n : ℕ) → whole ≡ refused n → 0 < n) → refusalOf (answerInFloats whole) ≡ 0 → (floats : Family Float) × (answerInFloats whole ≡ gives floats)
+pub not-refused : (whole : Answer (Family ℤ)) → ((n : ℕ) → whole ≡ refused n → 0 < n) → refusalOf (answerInFloats whole) ≡ 0
+    → (floats : Family Float) × (answerInFloats whole ≡ gives floats)
 not-refused (gives values) above h = (inFloats values, refl)
 not-refused (refused n) above h = absurd (omega (arith, above n refl, h))

@@ -1,55 +1,65 @@
--- What document 01 asks of the floating numbers. Stated over specs/ and the toolchain's account of IEEE 754. Assumes nothing.
+-- What document 01 asks of the floating numbers. Stated over specs/ and the toolchain's library, which has IEEE 754. Assumes nothing.
 use mathlib.Core.Path.{_≡_, refl, sym, ap, _∙_, subst}
 use mathlib.Core.Bool.{true}
 use mathlib.Core.List.{List, [], _∷_, map}
 use mathlib.Core.Logic.{_↔_, _⊎_, inl, inr}
-use Prim.Native.Nat.{ℕ, _<_}
+use Prim.Native.Nat.{ℕ, _+_, _<_}
 use native.Mathlib.Nat.{le-trans}
 use native.Mathlib.Omega.{arith}
 use lib.Dec.{T, lit<, lit≤, le→leb}
 use lib.IntN.{ℤ, pos, negℤ}
 use lib.Ieee.{Float, binary64, div, ofBits, ofInt, round}
+use Rattle.whole.specs.Round.{roundDiv}
 use Rattle.kinds.specs.Answer as Said
-use Rattle.kinds.specs.Answer.{gives, refused}
+use Rattle.kinds.specs.Answer.{gives, refused, refusalOf}
 use Rattle.kinds.specs.Kinds.{isFourBytes}
+use Rattle.equation.specs.Powers.{power, powersOf}
+use Rattle.equation.specs.Equation.{sum}
 use Rattle.equation.specs.Exact.{_over_, whole, Within}
-use Rattle.datum.specs.Page.{Family, shift, geoid, isEither}
-use Rattle.datum.specs.Point.{pageOf, answerOf, worked}
-use Rattle.datum.specs.Exact.{exact, boundsOf}
+use Rattle.datum.specs.Page.{Family, shift, geoid, isEither, ofEach}
+use Rattle.datum.specs.Point.{pageOf, answerOf, worked, firstOf, secondOf, thirdOf}
+use Rattle.datum.specs.Exact.{exact, demanded, boundsOf}
 use Rattle.datum.proofs.Codes.{six}
-use Rattle.datum.proofs.Errors.{no-narrower, all-widened}
+use Rattle.datum.proofs.Errors.{no-narrower}
 use Rattle.datum.proofs.Demands as datum
-use Rattle.floating.specs.Floats.{seconds, metres, zero, inFloats, answerInFloats, floatingOf, firstOf, secondOf, thirdOf, refusalOf}
+use Rattle.floating.specs.Floats.{seconds, metres, inFloats, answerInFloats, floatingOf, zero}
 use Rattle.floating.specs.Cases.{floatsSay, floatAnswer}
-use Rattle.floating.specs.Value.{valueOf, Close, inUnits, AllClose}
+use Rattle.floating.specs.Value.{valueOf, inUnits, NearTo, AllNear}
 use Rattle.floating.specs.declared.ShiftFloats.{ShiftFloats}
 use Rattle.floating.specs.declared.Answer.{Answer}
 use Rattle.floating.specs.declared.Answer.the-variants.{Shift, Geoid, Refused}
 use Rattle.floating.proofs.Quotients.{whole-exact, quotient-near}
 use Rattle.floating.proofs.Answers as answers
 
--- ---- what a float's number and 'within' mean, shown: -0.75 is -3 / 4; 1 / 2 and 3 / 2 are within 1 of each other, and not within 1 / 2
+-- ---- what a float's number and 'near to' mean, shown: -0.75 is -3 / 4; 1 / 2 and 3 / 2 are within 1 of each other, and not within 1 / 2
 pub record Shown : Type 0 where
   pub number : valueOf (ofBits binary64 0xbfe8_0000_0000_0000) ≡ negℤ (pos 3) over 4
-  pub close : Close 1 1 (pos 1 over 2) (pos 3 over 2)
-  pub not-close : Close 1 2 (pos 1 over 2) (pos 3 over 2) → ⊥
+  pub near : NearTo 1 1 (pos 1 over 2) (pos 3 over 2)
+  pub not-nearer : NearTo 1 2 (pos 1 over 2) (pos 3 over 2) → ⊥
 
 pub shown : Shown
 unfolding ofBits
 shown = record {
   number = refl;
-  close = record { proper = (lit< tt, lit< tt); near = lit≤ tt };
-  not-close = (λ c. absurd (le→leb _ _ (c .near)));
+  near = record { proper = (lit< tt, lit< tt); near = lit≤ tt };
+  not-nearer = (λ c. absurd (le→leb _ _ (c .near)));
 }
 
 -- ---- 'the whole answer made a 64-bit float without loss'
 pub without-loss : (n : ℤ) → isFourBytes n ≡ true → Within 0 1 (valueOf (ofInt binary64 n)) n
-without-loss n h = whole-exact n (le-trans (answers.four-bytes-size n h) (lit≤ tt))
+without-loss n h = whole-exact n (le-trans (answers.held n h) (lit≤ tt))
 
--- ---- 'then divided once by 100000 or by 1000': the code's constants, by their bits, are these numbers exactly
-pub divisors : (valueOf (ofBits binary64 0x40f8_6a00_0000_0000) ≡ whole (pos 100000)) × (valueOf (ofBits binary64 0x408f_4000_0000_0000) ≡ whole (pos 1000))
-unfolding ofBits
-divisors = (refl, refl)
+-- ---- 'then divided once by 100000 or by 1000': the divisors are these numbers exactly, and have these bits. That the code
+-- divides by the same is the promise of `seconds` and `metres`
+pub record Divisors : Type 0 where
+  pub second : valueOf (ofInt binary64 (pos 100000)) ≡ whole (pos 100000)
+  pub metre : valueOf (ofInt binary64 (pos 1000)) ≡ whole (pos 1000)
+  pub second-bits : ofInt binary64 (pos 100000) ≡ ofBits binary64 0x40f8_6a00_0000_0000
+  pub metre-bits : ofInt binary64 (pos 1000) ≡ ofBits binary64 0x408f_4000_0000_0000
+
+pub divisors : Divisors
+unfolding ofInt ofBits round
+divisors = record { second = refl; metre = refl; second-bits = refl; metre-bits = refl }
 
 -- and the zero of a refusal is no -0
 pub zero-worked : zero ≡ ofBits binary64 0x0000_0000_0000_0000
@@ -87,20 +97,31 @@ pub metres-worked : map (λ row. metres (row .0)) heights ≡ map (λ row. ofBit
 unfolding div ofInt ofBits round
 metres-worked = refl
 
+-- and whole points: the centres of codes 1 and 5
+pub record Centres : Type 0 where
+  pub code-1 : floatingOf (pos 1) (pos 126000000) (pos 118800000) ≡ gives (shift (ofBits binary64 0xc00e_be37_de93_9eae) (ofBits binary64 0xbff1_a5a4_69d7_342f) (ofBits binary64 0x4038_6e14_7ae1_47ae))
+  pub code-5 : floatingOf (pos 5) (pos 25200000) (pos 288000000) ≡ gives (geoid (ofBits binary64 0xbfef_53f7_ced9_1687))
+
+pub centres : Centres
+unfolding roundDiv power powersOf sum div ofInt ofBits round
+centres = record { code-1 = refl; code-5 = refl }
+
 -- ---- the map program gets the handheld's answer and no other
--- the float is as near to the whole answer as this, in its units
+-- times its units, a float is within 1 / 4194304 of the whole answer
 pub near-whole : (n : ℤ) → isFourBytes n ≡ true → Within 1 4194304 (inUnits 100000 (seconds n)) n × Within 1 4194304 (inUnits 1000 (metres n)) n
-near-whole n h =
-    let size = answers.four-bytes-size n h in
-    (quotient-near 100000 (lit< tt) (lit≤ tt) n size, quotient-near 1000 (lit< tt) (lit≤ tt) n size)
+near-whole n h = (quotient-near 100000 (lit< tt) (lit≤ tt) n (answers.held n h), quotient-near 1000 (lit< tt) (lit≤ tt) n (answers.held n h))
 
--- two whole numbers with one float are one
+-- no two angles have one float, and no two heights
 pub nothing-lost : (n m : ℤ) → isFourBytes n ≡ true → isFourBytes m ≡ true → (seconds n ≡ seconds m → n ≡ m) × (metres n ≡ metres m → n ≡ m)
-nothing-lost n m h k = (answers.same-seconds n m h k, answers.same-metres n m h k)
+nothing-lost n m h k = (answers.same-seconds n m (answers.held n h) (answers.held m k), answers.same-metres n m (answers.held n h) (answers.held m k))
 
--- and two points with one floating answer have one whole answer
-pub same-answer : (c b l d e m : ℤ) → floatingOf c b l ≡ floatingOf d e m → answerOf c b l ≡ answerOf d e m
-same-answer c b l d e m = answers.same-answers (answerOf c b l) (answerOf d e m) (λ values. datum.four-bytes isEither c b l {values = values}) (λ values. datum.four-bytes isEither d e m {values = values})
+-- two points with one floating answer have one whole answer
+pub same-answer : (code latitude longitude code' latitude' longitude' : ℤ) → floatingOf code latitude longitude ≡ floatingOf code' latitude' longitude'
+    → answerOf code latitude longitude ≡ answerOf code' latitude' longitude'
+same-answer code latitude longitude code' latitude' longitude' =
+    answers.same-answers (answerOf code latitude longitude) (answerOf code' latitude' longitude')
+    (λ values. datum.four-bytes isEither code latitude longitude {values = values})
+    (λ values. datum.four-bytes isEither code' latitude' longitude' {values = values})
 
 module _ (code latitude longitude : ℤ) where
   -- values are given where the whole answer has values, and they are its floats
@@ -117,33 +138,43 @@ module _ (code latitude longitude : ℤ) where
   pub never-5 : floatingOf code latitude longitude ≡ refused 5 → ⊥
   never-5 h = datum.answer-never-5 code latitude longitude (same-refusal 5 .0 h)
 
-  -- ---- demand 3: each float is within two units of an angle, and one of a height, of the exact value of the printed polynomial
-  pub floats-near : {floats : Family Float} → floatingOf code latitude longitude ≡ gives floats → AllClose (exact (pageOf code) latitude longitude) floats
-  floats-near {floats} h =
+  -- ---- demand 3: how near a float is to the exact value of the printed polynomial
+  -- within the bound of its equation, and a thousandth of a unit more
+  pub within-bounds : {floats : Family Float} → floatingOf code latitude longitude ≡ gives floats
+      → AllNear 1000 (ofEach (λ h. h + 1) (boundsOf code)) (exact (pageOf code) latitude longitude) floats
+  within-bounds {floats} h =
+      let g = answered floats .0 h in
+      subst (AllNear 1000 (ofEach (λ h. h + 1) (boundsOf code)) (exact (pageOf code) latitude longitude)) (g .1 .1)
+      (answers.floats-near (boundsOf code) (exact (pageOf code) latitude longitude) (g .0)
+      (datum.four-bytes isEither code latitude longitude (g .1 .0)) (datum.within-bounds isEither code latitude longitude (g .1 .0)))
+
+  -- so within two units of an angle, and one of a height
+  pub as-demanded : {floats : Family Float} → floatingOf code latitude longitude ≡ gives floats
+      → AllNear 1 (demanded floats) (exact (pageOf code) latitude longitude) floats
+  as-demanded {floats} h =
       let g = answered floats .0 h in
       let p = datum.answered isEither code latitude longitude (g .0) .0 (g .1 .0) in
-      subst (AllClose (exact (pageOf code) latitude longitude)) (g .1 .1)
-      (answers.all-close (exact (pageOf code) latitude longitude) (g .0) (datum.four-bytes isEither code latitude longitude (g .1 .0))
-      (all-widened 1000 1000 (lit< tt) (boundsOf code) (answers.spared (g .0)) (exact (pageOf code) latitude longitude) (g .0)
-      (subst (λ (v : Family ℤ). T (no-narrower 1000 1000 (boundsOf code) (answers.spared v))) (p .1 .1)
-      (six (λ z. T (no-narrower 1000 1000 (boundsOf z) (answers.spared (worked (pageOf z) latitude longitude)))) tt tt tt tt tt tt code (p .0 .0)))
-      (datum.within-bounds isEither code latitude longitude (g .1 .0))))
+      let e : inFloats (worked (pageOf code) latitude longitude) ≡ floats = ap inFloats (p .1 .1) ∙ g .1 .1 in
+      answers.all-wider 1000 1 (lit< tt) (ofEach (λ h. h + 1) (boundsOf code)) (demanded floats) (exact (pageOf code) latitude longitude) floats
+      (subst (λ (f : Family Float). T (no-narrower 1000 1 (ofEach (λ h. h + 1) (boundsOf code)) (demanded f))) e
+      (six (λ z. T (no-narrower 1000 1 (ofEach (λ h. h + 1) (boundsOf z)) (demanded (inFloats (worked (pageOf z) latitude longitude))))) tt tt tt tt tt tt code (p .0 .0)))
+      (within-bounds h)
 
   -- ---- 'the first is dLat or N, the second and third are zero for a geoid height'
   abbrev called : Float → Float → Float → ℕ → Type 0
   called x y z n =
-      (firstOf (floatingOf code latitude longitude) ≡ x) × (secondOf (floatingOf code latitude longitude) ≡ y)
-      × (thirdOf (floatingOf code latitude longitude) ≡ z) × (refusalOf (floatingOf code latitude longitude) ≡ n)
+      (firstOf zero (floatingOf code latitude longitude) ≡ x) × (secondOf zero (floatingOf code latitude longitude) ≡ y)
+      × (thirdOf zero (floatingOf code latitude longitude) ≡ z) × (refusalOf (floatingOf code latitude longitude) ≡ n)
 
   pub of-shift : (dLat dLon dH : Float) → floatingOf code latitude longitude ≡ gives (shift dLat dLon dH) → called dLat dLon dH 0
-  of-shift dLat dLon dH h = (ap firstOf h, ap secondOf h, ap thirdOf h, ap refusalOf h)
+  of-shift dLat dLon dH h = (ap (firstOf zero) h, ap (secondOf zero) h, ap (thirdOf zero) h, ap refusalOf h)
 
   pub of-geoid : (n : Float) → floatingOf code latitude longitude ≡ gives (geoid n) → called n zero zero 0
-  of-geoid n h = (ap firstOf h, ap secondOf h, ap thirdOf h, ap refusalOf h)
+  of-geoid n h = (ap (firstOf zero) h, ap (secondOf zero) h, ap (thirdOf zero) h, ap refusalOf h)
 
   -- 'and all are zero where the point is refused'; 'a fourth call gives the point's refusal number'
   pub of-refused : (n : ℕ) → floatingOf code latitude longitude ≡ refused n → called zero zero zero n
-  of-refused n h = (ap firstOf h, ap secondOf h, ap thirdOf h, ap refusalOf h)
+  of-refused n h = (ap (firstOf zero) h, ap (secondOf zero) h, ap (thirdOf zero) h, ap refusalOf h)
 
   -- 'or 0 for an answered point', and for no other
   pub answered-0 : (refusalOf (floatingOf code latitude longitude) ≡ 0) ↔ ((floats : Family Float) × (floatingOf code latitude longitude ≡ gives floats))

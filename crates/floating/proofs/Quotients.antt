@@ -4,7 +4,7 @@ use mathlib.Core.Bool.{Bool, true, false, not, cond}
 use Prim.Native.Nat.{ℕ, zero, suc, _+_, _-_, _*_, _/_, _%_, _^_, _≤_, _<_, compare, Ordering, Ordering·lt, Ordering·eq, Ordering·gt}
 use native.Mathlib.Nat.{le-trans, le-of-eq, lt-irrefl, lt-of-le-of-lt, mul-pos, mul-one, mul-le-mul-left, mul-le-mul-right, le-of-mul-le-mul-right, mod-lt, div-add-mod', le-div-iff-mul-le, pow-zero, zero-mul, zero-lt-suc}
 use native.Mathlib.Omega.{arith}
-use lib.Dec.{T, isLe, isEq, ltb, eqb, eqb·suc-zero, ltb→lt, nltb→le, leb→le, nleb→lt, eqb→eq, lit<, lit≤}
+use lib.Dec.{T, isLe, isEq, eqb, eqb·suc-zero, leb→le, nleb→lt, eqb→eq, lit<, lit≤}
 use lib.Pow.{pow-add, pow-pos}
 use lib.IntN.{ℤ, pos, negsuc, natAbs, _-ℤ_, _*ℤ_, +ℤ-invr}
 use lib.Ieee.{Float, nan, inf, fin, binary64, up, down, nearest, unlike, round, div, ofInt}
@@ -15,9 +15,9 @@ use lib.Ieee.Nearest.{closest, nearest-ge}
 use lib.Ieee.Order.{drop, kept}
 use lib.Ieee.Scale.{round-same}
 use lib.Ieee.Back.{round-whole}
-use Rattle.whole.proofs.Ring.{cond-case, pos-sub, -ℤ-negℤ}
-use Rattle.whole.proofs.Sizes.{abs-neg}
-use Rattle.whole.proofs.Signs.{signed, signed-*-pos}
+use Rattle.whole.proofs.Ring.{pos-sub}
+use Rattle.whole.proofs.Sizes.{abs-sub}
+use Rattle.whole.proofs.Signs.{signed, signed-*-pos, signed-apart}
 use Rattle.equation.specs.Exact.{Fraction, _over_, whole, _times_, Within}
 use Rattle.equation.proofs.Fractions.{times-one, within-same, one-number}
 use Rattle.floating.specs.Floats.{_dividedBy_}
@@ -40,7 +40,7 @@ closest-near a b B = go (compare (a % b * 2) b) (leb→le (a % b * 2) b) (nleb�
     go Ordering·gt h k e s r = let above : b < a % b * 2 = k tt in (omega arith, omega arith)
 
 -- ---- a / c, in units of which L make 1, rounded to p digits
--- Where a is at most A, and p digits are enough for A * M, the last digit that is kept is at most L / M.
+-- Where a is at most A, p - 1 digits are enough for A * M, and c is at most L / M, so is c times the last place that is kept.
 module _ (p a A c L M : ℕ) (P : 0 < p) (C : 0 < c) (O : 0 < A) (most : a ≤ A) (digits : A * M ≤ 2 ^ (p - 1)) (fine : c * M ≤ L) where
   digit-small : (k : ℕ) → k ≡ drop p (a * L) c → c * 2 ^ k * M ≤ L
   digit-small zero e = subst (λ (x : ℕ). c * x * M ≤ L) (sym (pow-zero 2)) (subst (λ (x : ℕ). x * M ≤ L) (sym (mul-one c)) fine)
@@ -75,12 +75,12 @@ module _ (p a A c L M : ℕ) (P : 0 < p) (C : 0 < c) (O : 0 < A) (most : a ≤ A
       beyond x d h s = omega arith
 
 -- ---- a quotient as a float: so many of the smallest values, of which `one` make 1, that c times as many are near a * one
--- A float has 53 digits. A number of 4 bytes takes up to 31 before the point, which leaves 2 ^ 21 for M, and rounding errs by half
--- a digit: so 2 ^ 22 = 4194304.
+-- A float has 53 digits, and a is at most 2 ^ 31: that leaves 2 ^ 21 of 2 ^ 52 for M. A rounding errs by half the last place, so
+-- the float by 1 / 2 ^ 22 of a unit: 4194304.
 abbrev one : ℕ
 one = 2 ^ 1074
 
-record Near (x : Float) (s : Bool) (a c : ℕ) : Type 0 where
+record Rounded (x : Float) (s : Bool) (a c : ℕ) : Type 0 where
   grains : ℕ
   value : HasValue x s grains one
   at-most : 4194304 * (grains * c) ≤ 4194304 * (a * one) + one
@@ -92,7 +92,7 @@ near-limit g a c l C h n =
     let limit = mul-le-mul-right l h in
     omega arith
 
-rounded-near : (s : Bool) (a c : ℕ) → 0 < c → a ≤ 2147483648 → c ≤ 2 ^ 53 → Near (round binary64 s a c) s a c
+rounded-near : (s : Bool) (a c : ℕ) → 0 < c → a ≤ 2147483648 → c ≤ 2 ^ 53 → Rounded (round binary64 s a c) s a c
 rounded-near s a c C h d =
     let near = grid-near 53 a 2147483648 c one 2097152 (lit< tt) C (lit< tt) h (lit≤ tt) (le-trans (mul-le-mul-right 2097152 d) (lit≤ tt)) in
     let k = drop 53 (a * one) c in
@@ -136,15 +136,7 @@ divided-is (fin t m e) (fin u (suc n) d) s a c C h k =
 
 -- ---- the same in fractions
 apart : (a b l : ℕ) → 4194304 * a ≤ 4194304 * b + l → 4194304 * b ≤ 4194304 * a + l → 4194304 * natAbs (pos a -ℤ pos b) ≤ l
-apart a b l h k =
-    subst (λ (z : ℤ). 4194304 * natAbs z ≤ l) (sym (pos-sub a b))
-    (cond-case (ltb a b) (negsuc (b - suc a)) (pos (a - b)) (λ z. 4194304 * natAbs z ≤ l)
-    (λ t. let less : a < b = ltb→lt a b t in omega arith)
-    (λ t. let no-less : b ≤ a = nltb→le a b t in omega arith))
-
-signed-apart : (s : Bool) (a b : ℕ) → natAbs (signed s a -ℤ signed s b) ≡ natAbs (pos a -ℤ pos b)
-signed-apart true a b = refl
-signed-apart false a b = ap natAbs (-ℤ-negℤ (pos a) (pos b)) ∙ abs-neg (pos a -ℤ pos b)
+apart a b l h k = rw (pos-sub a b) (omega (arith, abs-sub a b (l / 4194304) (omega arith) (omega arith)))
 
 value-signed : (s : Bool) (m : ℕ) (e : ℤ) → valueOf (fin s m e) ≡ signed (not s) (m * up e) over down e
 value-signed true m e = refl
@@ -183,7 +175,7 @@ whole-exact (pos a) h = exactly false a h
 whole-exact (negsuc k) h = exactly true (suc k) h
 
 -- times c, the quotient is within 1 / 4194304 of the number that was divided
-near-within : (s : Bool) (a c : ℕ) (x : Float) → Near x s a c → Within 1 4194304 (valueOf x times whole (pos c)) (signed (not s) a)
+near-within : (s : Bool) (a c : ℕ) (x : Float) → Rounded x s a c → Within 1 4194304 (valueOf x times whole (pos c)) (signed (not s) a)
 near-within s a c x n = of-value s (n .grains) c one x (n .value) (record { proper = lit< tt; near = near })
   where
     near : 4194304 * natAbs (signed (not s) a *ℤ pos one -ℤ signed (not s) (n .grains * c)) ≤ 1 * one
@@ -192,12 +184,12 @@ near-within s a c x n = of-value s (n .grains) c one x (n .value) (record { prop
         (subst (λ (k : ℕ). 4194304 * k ≤ 1 * one) (sym (signed-apart (not s) (a * one) (n .grains * c)))
         (apart (a * one) (n .grains * c) one (n .at-least) (n .at-most)))
 
--- what is divided by c, which has at most 53 digits, and is held in 4 bytes
+-- c is at most 2 ^ 53, and what is divided is held in 4 bytes
 module _ (c : ℕ) (C : 0 < c) (d : c ≤ 2 ^ 53) where
   divided-near : (s : Bool) (a : ℕ) → a ≤ 2147483648 → Within 1 4194304 (valueOf (div binary64 (round binary64 s a 1) (round binary64 false c 1)) times whole (pos c)) (signed (not s) a)
   divided-near s a h =
       near-within s a c _
-      (subst (λ (x : Float). Near x s a c)
+      (subst (λ (x : Float). Rounded x s a c)
       (sym (divided-is (round binary64 s a 1) (round binary64 false c 1) s a c C (round-whole binary64 s a (le-trans h (lit≤ tt))) (round-whole binary64 false c d)))
       (rounded-near s a c C h d))
 

@@ -2,13 +2,14 @@
 -- over specs/ alone. Assumes nothing.
 use mathlib.Core.Path.{_≡_, refl, ap}
 use mathlib.Core.List.{List}
-use Prim.Native.Nat.{ℕ, _≤_}
+use mathlib.Core.Logic.{_↔_}
+use Prim.Native.Nat.{ℕ, _≤_, _<_}
 use native.Mathlib.Omega.{arith}
 use lib.IntN.{ℤ, pos, negℤ, _*ℤ_}
 use lib.ListN.{length, take, drop, length-append, length-drop}
 use lib.Seq.{take-append-seam, drop-append-seam}
 use Rattle.whole.specs.Round.{roundDiv}
-use Rattle.kinds.specs.Answer.{gives, refused, numberOf, lent}
+use Rattle.kinds.specs.Answer.{Answer, gives, refused, refusalOf, numberOf, lent}
 use Rattle.kinds.specs.Cases.{localLatitude, localLongitude, wgs84Latitude, wgs84Longitude, angleShift, height, written}
 use Rattle.kinds.specs.Kinds.{converted}
 use Rattle.kinds.specs.declared.Wgs84Latitude.{Wgs84Latitude}
@@ -29,7 +30,7 @@ use Rattle.kinds.specs.declared.HeightAnswer.{HeightAnswer}
 use Rattle.kinds.specs.declared.HeightAnswer.the-variants as Height
 use Rattle.kinds.specs.declared.WrittenAnswer.{WrittenAnswer}
 use Rattle.kinds.specs.declared.WrittenAnswer.the-variants as Written
-use Rattle.kinds.proofs.Answers.{number-back, same-refusal, rebuilt, determined}
+use Rattle.kinds.proofs.Answers.{not-both, number-back, same-refusal, rebuilt, determined}
 
 -- ---- 'Refusal numbers'
 -- no two refusals have one number
@@ -47,6 +48,11 @@ numbers-tabled Area = (omega arith, omega arith)
 numbers-tabled Room = (omega arith, omega arith)
 numbers-tabled Foreign = (omega arith, omega arith)
 numbers-tabled Sheet = (omega arith, omega arith)
+
+-- of an answer in numbers, a number above 0 is that of its refusal
+pub by-number : {A : Type 0} (answer : Answer A) (n : ℕ) → 0 < n → (answer ≡ refused n) ↔ (refusalOf answer ≡ n)
+by-number (gives value) n h = ((λ e. absurd (not-both e)), (λ e. absurd (omega (arith, h, e))))
+by-number (refused m) n h = (ap refusalOf, ap refused)
 
 -- ---- 'Refusals return .. lent memory as it came', 'changes only those, at its start'
 pub refusal-changes-nothing : (n : ℕ) (out : List ℕ) → lent (refused n) out ≡ out

@@ -17,6 +17,11 @@ abbrev pub provided : {A : Type 0} → Bool → ℕ → Answer A → Answer A
 provided true n a = a
 provided false n a = refused n
 
+-- the number of the refusal, or 0 where there is a value
+abbrev pub refusalOf : {A : Type 0} → Answer A → ℕ
+refusalOf (gives value) = 0
+refusalOf (refused n) = n
+
 -- the number of each refusal
 abbrev pub numberOf : Refusal → ℕ
 numberOf Length = 1

@@ -1,4 +1,4 @@
-// The datums: each point through the three calls, and as floats. Its answers in units, or the numbers of the refusals.
+// The datums: each point through the three calls, in units or by the number of the refusal, and as floats.
 use datum::PointAnswer;
 use datum::ShiftAnswer;
 use datum::Shifts;

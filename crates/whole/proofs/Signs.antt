@@ -9,6 +9,8 @@ use borrow.Author.Tests.{ltb-true}
 use lib.IntN.{ℤ, pos, negsuc, negℤ, natAbs, _+ℤ_, _-ℤ_, _*ℤ_, +ℤ-idr, +ℤ-idl, +ℤ-negℤ-cancel}
 use lib.Signed.{mag, quotZ, remZ, nonNeg, ltZ, _<ℤ_}
 use Rattle.whole.specs.Round.{nearest, roundDiv}
+use Rattle.whole.proofs.Ring.{ -ℤ-negℤ}
+use Rattle.whole.proofs.Sizes.{abs-neg}
 
 -- n, or -n
 abbrev pub signed : Bool → ℕ → ℤ
@@ -52,6 +54,11 @@ signed-* false false (suc a) (suc b) = refl
 pub signed-*-pos : (s : Bool) (a b : ℕ) → signed s a *ℤ pos b ≡ signed s (a * b)
 signed-*-pos true a b = refl
 signed-*-pos false a b = signed-* false true a b
+
+-- the size of a difference of two of one sign
+pub signed-apart : (s : Bool) (a b : ℕ) → natAbs (signed s a -ℤ signed s b) ≡ natAbs (pos a -ℤ pos b)
+signed-apart true a b = refl
+signed-apart false a b = ap natAbs (-ℤ-negℤ (pos a) (pos b)) ∙ abs-neg (pos a -ℤ pos b)
 
 pub signed-quot : (s : Bool) (a k : ℕ) → quotZ (signed s a) (pos k) ≡ signed s (a / k)
 signed-quot true a k = refl

@@ -1,11 +1,8 @@
 -- `floating::floating` meets its contract. Assumes nothing.
-use mathlib.Core.Path.{sym, ap, _∙_}
+use mathlib.Core.Path.{ap, _∙_}
 use Rattle.kinds.specs.Answer.{gives, refused}
 use Rattle.datum.specs.Page.{geoid}
-use Rattle.datum.specs.Point.{answerOf}
-use Rattle.datum.specs.Cases.{pointAnswer}
-use Rattle.floating.specs.Floats.{answerInFloats}
-use Rattle.floating.proofs.Calls.{came}
+use Rattle.floating.proofs.Calls.{floats-of}
 use borrow.Author.Needs.{needs}
 use Rattle.floating.proofs.floating.Statement.{statement}
 use Rattle.floating.proofs.floating.Tie as tie
@@ -36,24 +33,21 @@ returns c =
     let call = c .before .before .before .before in
     let s = call .before in
     ap gives (c .of .ensures)
-    ∙ ap (λ x. answerInFloats (pointAnswer x)) (sym (c .before .before .shifts .given .1))
-    ∙ ap answerInFloats (call .answer .ensures ∙ came (s .fits .code) (s .fits .latitude) (s .fits .longitude) answerOf)
+    ∙ floats-of (s .fits .code) (s .fits .latitude) (s .fits .longitude) (call .answer .ensures) (c .before .before .shifts .given .1)
 
 returns-2 : tie.Need-returns-2
 returns-2 c =
     let call = c .before .before .before .before in
     let s = call .before in
     ap (λ x. gives (geoid x)) (c .metres .ensures)
-    ∙ ap (λ x. answerInFloats (pointAnswer x)) (sym (c .before .before .height .given .1))
-    ∙ ap answerInFloats (call .answer .ensures ∙ came (s .fits .code) (s .fits .latitude) (s .fits .longitude) answerOf)
+    ∙ floats-of (s .fits .code) (s .fits .latitude) (s .fits .longitude) (call .answer .ensures) (c .before .before .height .given .1)
 
 returns-3 : tie.Need-returns-3
 returns-3 c =
     let call = c .before .before .before .before in
     let s = call .before in
     ap refused (c .number .ensures)
-    ∙ ap (λ x. answerInFloats (pointAnswer x)) (sym (c .before .before .why .given .1))
-    ∙ ap answerInFloats (call .answer .ensures ∙ came (s .fits .code) (s .fits .latitude) (s .fits .longitude) answerOf)
+    ∙ floats-of (s .fits .code) (s .fits .latitude) (s .fits .longitude) (call .answer .ensures) (c .before .before .why .given .1)
 
 pub floating-spec : {M : Type 1} → statement M
 floating-spec =
