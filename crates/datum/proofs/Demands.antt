@@ -110,7 +110,7 @@ family-tested family code latitude longitude = go (isCode code)
     go true = refl
     go false = refl
 
--- ---- 'dLat, dLon, dH, or N and two zeros'; and three zeros where the point is refused
+-- ---- 'dLat, dLon, dH, or N and two zeros', with `none` for the zeros; and three of these where the point is refused
 pub three-values : {A : Type 0} (none a b c : A) (n : ℕ)
     → (valuesOf none (gives (shift a b c)) ≡ a ∷ b ∷ c ∷ []) × (valuesOf none (gives (geoid a)) ≡ a ∷ none ∷ none ∷ [])
     × (valuesOf none (refused n) ≡ none ∷ none ∷ none ∷ [])

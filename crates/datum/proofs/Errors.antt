@@ -15,7 +15,7 @@ use Rattle.equation.proofs.Fractions.{exact-proper, same-times, within-same, wi
 use Rattle.equation.proofs.Errors.{bounded, bounded-wider, answer-near}
 use Rattle.datum.specs.Page.{Page, Family, shift, geoid, each, Each, Paired}
 use Rattle.datum.specs.Point.{isCode, pageOf, inArea, powersU, powersV, evaluated, worked}
-use Rattle.datum.specs.Exact.{exactFrom, polynomials, exact, AllWithin, demanded, boundsOf}
+use Rattle.datum.specs.Exact.{exactFrom, polynomials, exact, AllNear, AllWithin, demanded, boundsOf}
 use Rattle.datum.proofs.Families.{three, each-by, each-of, paired, paired-by, shift-so, geoid-so}
 use Rattle.datum.proofs.Codes.{six}
 use Rattle.datum.proofs.Limits.{most-u, most-v, u-size, v-size}
@@ -77,21 +77,23 @@ module _ (page : Page) (latitude longitude : ℤ) (inside : inArea page latitude
   pub point-near : (n : ℕ) (bounds : Family ℕ) → T (page-bounded n bounds page) → AllWithin n bounds (exact page latitude longitude) (worked page latitude longitude)
   point-near n bounds test = tables-near n bounds (page .equations) test
 
--- ---- wider bounds, in other parts of a unit
+-- ---- wider bounds
+-- what is so near by one bound is so near by another, where a test says that it is no narrower
+pub all-nearer : {A : Type 0} {R S : ℕ → Fraction → A → Type 0} (test : ℕ → ℕ → Bool) → ((h o : ℕ) (f : Fraction) (a : A) → T (test h o) → R h f a → S o f a)
+    → (narrow wide : Family ℕ) (exacts : Family Fraction) (values : Family A) → T (paired test narrow wide) → AllNear R narrow exacts values → AllNear S wide exacts values
+all-nearer test so (shift h i j) (shift o q r) exacts values passes =
+    let t = three (test h o) (test i q) (test j r) passes in
+    shift-so exacts (λ dLat dLon dH. shift-so values (λ a b c w. (so h o dLat a (t .0) (w .0), so i q dLon b (t .1) (w .1), so j r dH c (t .2) (w .2))))
+all-nearer test so (geoid h) (geoid o) exacts values passes = geoid-so exacts (λ height. geoid-so values (λ a. so h o height a passes))
+all-nearer test so (shift h i j) (geoid o) exacts values passes = absurd passes
+all-nearer test so (geoid h) (shift o q r) exacts values passes = absurd passes
+
+-- in other parts of a unit
 abbrev pub no-narrower : ℕ → ℕ → Family ℕ → Family ℕ → Bool
 no-narrower n m = paired (λ h o. leb (m * h) (o * n))
 
-module _ (n m : ℕ) (p : 0 < n) where
-  widened : {f : Fraction} {x : ℤ} (h o : ℕ) → T (leb (m * h) (o * n)) → Within h n f x → Within o m f x
-  widened h o t w = within-wider o m p (leb→le (m * h) (o * n) t) w
-
-  pub all-widened : (narrow wide : Family ℕ) (exacts : Family Fraction) (values : Family ℤ) → T (no-narrower n m narrow wide) → AllWithin n narrow exacts values → AllWithin m wide exacts values
-  all-widened (shift h i j) (shift o q r) exacts values test =
-      let t = three (leb (m * h) (o * n)) (leb (m * i) (q * n)) (leb (m * j) (r * n)) test in
-      shift-so exacts (λ dLat dLon dH. shift-so values (λ a b c w. (widened h o (t .0) (w .0), widened i q (t .1) (w .1), widened j r (t .2) (w .2))))
-  all-widened (geoid h) (geoid o) exacts values test = geoid-so exacts (λ height. geoid-so values (λ a. widened h o test))
-  all-widened (shift h i j) (geoid o) exacts values test = absurd test
-  all-widened (geoid h) (shift o q r) exacts values test = absurd test
+pub all-widened : (n m : ℕ) → 0 < n → (narrow wide : Family ℕ) (exacts : Family Fraction) (values : Family ℤ) → T (no-narrower n m narrow wide) → AllWithin n narrow exacts values → AllWithin m wide exacts values
+all-widened n m p = all-nearer (λ h o. leb (m * h) (o * n)) (λ h o f x t w. within-wider o m p (leb→le (m * h) (o * n) t) w)
 
 -- ---- over one power of the bottom of U and V
 abbrev Over : ℕ → Fraction → Type 0
@@ -117,7 +119,7 @@ all-apart (geoid f) (shift g c d) = true
 
 not-both : (f g : Fraction) (x : ℤ) → T (apart f g) → Within 2 1 f x → Within 2 1 g x → ⊥
 not-both f g x far v w =
-    absurd (omega (arith, within-both f g v w, ltb→lt (4 * (f .bottom * g .bottom)) (natAbs (f .top *ℤ pos (g .bottom) -ℤ g .top *ℤ pos (f .bottom))) far))
+    absurd (omega (arith, within-both f g v w .near, ltb→lt (4 * (f .bottom * g .bottom)) (natAbs (f .top *ℤ pos (g .bottom) -ℤ g .top *ℤ pos (f .bottom))) far))
 
 pub no-one-answer : (e f : Family Fraction) (values : Family ℤ) → T (all-apart e f) → AllWithin 1 (demanded values) e values → AllWithin 1 (demanded values) f values → ⊥
 no-one-answer (shift e a b) (shift f c d) (shift x y z) far v w = not-both e f x far (v .0) (w .0)

@@ -24,11 +24,15 @@ exact page latitude longitude =
     (exactFrom (pos (page .k)) (pos (page .longitude)) longitude)
 
 -- ---- how near
+-- each value is as near to its exact value as its bound says
+abbrev pub AllNear : {A : Type 0} → (ℕ → Fraction → A → Type 0) → Family ℕ → Family Fraction → Family A → Type 0
+AllNear near (shift h i j) exacts values =
+    OfShift exacts (λ dLat dLon dH. OfShift values (λ a b c. near h dLat a × near i dLon b × near j dH c))
+AllNear near (geoid h) exacts values = OfGeoid exacts (λ height. OfGeoid values (λ a. near h height a))
+
 -- each value is within its bound of its exact value; bounds are in nths of a unit
 abbrev pub AllWithin : ℕ → Family ℕ → Family Fraction → Family ℤ → Type 0
-AllWithin n (shift h i j) exacts values =
-    OfShift exacts (λ dLat dLon dH. OfShift values (λ a b c. Within h n dLat a × Within i n dLon b × Within j n dH c))
-AllWithin n (geoid h) exacts values = OfGeoid exacts (λ height. OfGeoid values (λ a. Within h n height a))
+AllWithin n = AllNear (λ h exact value. Within h n exact value)
 
 -- demand 3, in units: two for each angle and one for each height
 abbrev pub demanded : {A : Type 0} → Family A → Family ℕ

@@ -83,7 +83,7 @@ geoidOf code latitude longitude = asked isGeoid code latitude longitude
 abbrev pub answerOf : ℤ → ℤ → ℤ → Answer (Family ℤ)
 answerOf code latitude longitude = asked isEither code latitude longitude
 
--- ---- an answer as three values: dLat, dLon and dH, or N and two that are none, or three that are none where the point is refused
+-- ---- an answer as three values: dLat, dLon and dH, or N; `none` stands where there is no value
 abbrev pub firstOf : {A : Type 0} → A → Answer (Family A) → A
 firstOf none (gives (shift dLat dLon dH)) = dLat
 firstOf none (gives (geoid n)) = n

@@ -10,7 +10,7 @@ use lib.ListN.{length, getD}
 use Rattle.whole.specs.Round.{roundDiv, scale}
 use Rattle.equation.specs.Powers.{power, powersOf}
 use Rattle.equation.specs.Equation.{Term, term, sum, equationOf}
-use Rattle.equation.specs.Exact.{_over_, _to-the_, exactOf, Within, Beyond}
+use Rattle.equation.specs.Exact.{_over_, _to-the_, exactOf, Within, Beyond, NearTo}
 use Rattle.equation.proofs.Steps.{power-next, length-powers, powers-at}
 use Rattle.equation.proofs.Sums.{sum-any-order}
 
@@ -54,6 +54,9 @@ pub record Exact : Type 0 where
   pub not-within : (Within 9 2 (pos 5 over 2) (pos 8) → ⊥) × (Within 9 2 (pos 5 over 2) (negℤ (pos 3)) → ⊥)
   pub beyond : Beyond 9 2 (pos 5 over 2) (pos 8) × Beyond 9 2 (pos 5 over 2) (negℤ (pos 3))
   pub not-beyond : (Beyond 9 2 (pos 5 over 2) (pos 7) → ⊥) × (Beyond 9 2 (pos 5 over 2) (negℤ (pos 2)) → ⊥)
+  -- 1 / 2 and -1 / 4 are within 3 / 4 of each other, and not within 2 / 4
+  pub near-to : NearTo 3 4 (pos 1 over 2) (negℤ (pos 1) over 4)
+  pub not-nearer : NearTo 2 4 (pos 1 over 2) (negℤ (pos 1) over 4) → ⊥
 
 pub exact : Exact
 unfolding exactOf _to-the_
@@ -64,4 +67,6 @@ exact = record {
   not-within = ((λ w. absurd (le→leb _ _ (w .near))), (λ w. absurd (le→leb _ _ (w .near))));
   beyond = (record { proper = lit< tt; far = lit< tt }, record { proper = lit< tt; far = lit< tt });
   not-beyond = ((λ b. absurd (lt→ltb _ _ (b .far))), (λ b. absurd (lt→ltb _ _ (b .far))));
+  near-to = record { proper = (lit< tt, lit< tt); near = lit≤ tt };
+  not-nearer = (λ c. absurd (le→leb _ _ (c .near)));
 }

@@ -12,7 +12,7 @@ use mir.Facts.{and-yes}
 use Rattle.whole.proofs.Ring.{by-diff, pos-diff, diff-cong, ring₀, one-*ℤ, -ℤ-*ℤ}
 use Rattle.whole.proofs.Sizes.{abs--, abs-zero, abs-*}
 use Rattle.equation.specs.Equation.{Term, term}
-use Rattle.equation.specs.Exact.{Fraction, _over_, whole, _times_, _to-the_, exactOf, Within}
+use Rattle.equation.specs.Exact.{Fraction, _over_, whole, _times_, _to-the_, exactOf, Within, NearTo}
 
 -- ---- times 1
 pub one-times : (f : Fraction) → whole (pos 1) times f ≡ f
@@ -61,15 +61,24 @@ within-wider {h} {n} {f} {x} o m p t w = record {
   near = le-of-mul-le-mul-left {k = n} (omega (arith, mul-le-mul-left m (w .near), mul-le-mul-right (f .bottom) t)) p;
 }
 
+pub near-wider : {h n : ℕ} {f g : Fraction} (o m : ℕ) → 0 < n → m * h ≤ o * n → NearTo h n f g → NearTo o m f g
+near-wider {h} {n} {f} {g} o m p t w = record {
+  proper = w .proper;
+  near = le-of-mul-le-mul-left {k = n} (omega (arith, mul-le-mul-left m (w .near), mul-le-mul-right (f .bottom * g .bottom) t)) p;
+}
+
 -- a number near two fractions: they are near each other
-pub within-both : {h k n : ℕ} {x : ℤ} (f g : Fraction) → Within h n f x → Within k n g x → n * natAbs (f .top *ℤ pos (g .bottom) -ℤ g .top *ℤ pos (f .bottom)) ≤ (h + k) * (f .bottom * g .bottom)
-within-both {h} {k} {n} {x} f g v w =
-    omega (
-      arith,
-      mul-le-mul-left n (apart (f .top) (g .top) (f .bottom) (g .bottom)),
-      mul-le-mul-right (g .bottom) (v .near),
-      mul-le-mul-right (f .bottom) (w .near),
-    )
+pub within-both : {h k n : ℕ} {x : ℤ} (f g : Fraction) → Within h n f x → Within k n g x → NearTo (h + k) n f g
+within-both {h} {k} {n} {x} f g v w = record {
+  proper = (v .proper, w .proper);
+  near =
+      omega (
+        arith,
+        mul-le-mul-left n (apart (f .top) (g .top) (f .bottom) (g .bottom)),
+        mul-le-mul-right (g .bottom) (v .near),
+        mul-le-mul-right (f .bottom) (w .near),
+      );
+}
   where
     parts : (t u : ℤ) (a b : ℕ) → t *ℤ pos b -ℤ u *ℤ pos a ≡ (x *ℤ pos b -ℤ u) *ℤ pos a -ℤ (x *ℤ pos a -ℤ t) *ℤ pos b
     parts t u a b = rw (by-diff t, by-diff u, by-diff x, pos-diff a, pos-diff b) (simp ring₀ (diff-cong _ _ _ _ (omega arith)))

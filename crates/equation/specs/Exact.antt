@@ -44,3 +44,8 @@ pub record Within (h n : ℕ) (f : Fraction) (x : ℤ) : Type 0 where
 pub record Beyond (h n : ℕ) (f : Fraction) (x : ℤ) : Type 0 where
   pub proper : 0 < f .bottom
   pub far : h * f .bottom < n * natAbs (x *ℤ pos (f .bottom) -ℤ f .top)
+
+-- ---- two fractions are within h / n of each other, and their bottoms are above zero
+pub record NearTo (h n : ℕ) (f g : Fraction) : Type 0 where
+  pub proper : (0 < f .bottom) × (0 < g .bottom)
+  pub near : n * natAbs (f .top *ℤ pos (g .bottom) -ℤ g .top *ℤ pos (f .bottom)) ≤ h * (f .bottom * g .bottom)

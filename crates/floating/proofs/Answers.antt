@@ -1,28 +1,28 @@
 -- Whole answers and their floats: what is known of the ones by the others. Assumes nothing.
 use mathlib.Core.Path.{_≡_, refl, sym, ap, subst}
-use mathlib.Core.Bool.{Bool, true, false}
+use mathlib.Core.Bool.{true}
 use Prim.Native.Nat.{ℕ, _+_, _*_, _^_, _≤_, _<_}
-use native.Mathlib.Nat.{mul-le-mul-left, mul-le-mul-right, le-of-mul-le-mul-left}
 use native.Mathlib.Omega.{arith}
 use lib.Dec.{T, leb, leb→le, lit<, lit≤}
 use lib.IntN.{ℤ, natAbs}
 use lib.Ieee.{Float}
+use lib.Ieee.Bits.{is-true}
 use Rattle.whole.proofs.Words.{sized}
 use Rattle.kinds.specs.Answer.{Answer, gives, refused, refusalOf}
 use Rattle.kinds.specs.Kinds.{isFourBytes}
 use Rattle.kinds.proofs.Answers.{not-both, same-value}
 use Rattle.kinds.proofs.Tested.{of-four-bytes}
-use Rattle.equation.specs.Exact.{Fraction, Within}
-use Rattle.equation.proofs.Fractions.{within-wider, within-both}
+use Rattle.equation.specs.Exact.{Fraction, Within, NearTo}
+use Rattle.equation.proofs.Fractions.{within-wider, near-wider, within-both}
 use Rattle.datum.specs.Page.{Family, shift, geoid, ofEach, each, Each}
 use Rattle.datum.specs.Exact.{AllWithin}
-use Rattle.datum.proofs.Families.{three, each-by, shift-so, geoid-so}
-use Rattle.datum.proofs.Errors.{no-narrower}
+use Rattle.datum.proofs.Families.{each-by, shift-so, geoid-so}
+use Rattle.datum.proofs.Errors.{no-narrower, all-nearer}
 use Rattle.floating.specs.Floats.{_dividedBy_, perSecond, perMetre, seconds, metres, inFloats, answerInFloats}
-use Rattle.floating.specs.Value.{NearTo, inUnits, AllNear}
+use Rattle.floating.specs.Value.{inUnits, allInUnits, FloatsWithin}
 use Rattle.floating.proofs.Quotients.{quotient-near, same-whole}
 
--- ---- of numbers held in 4 bytes
+-- ---- of numbers of at most 2 ^ 31 in size, as 4 bytes hold
 abbrev Held : ℤ → Type 0
 Held n = natAbs n ≤ 2147483648
 
@@ -30,11 +30,7 @@ pub held : (n : ℤ) → isFourBytes n ≡ true → Held n
 held n h = sized n (of-four-bytes n h)
 
 all-held : (values : Family ℤ) → each isFourBytes values ≡ true → Each Held values
-all-held values h = each-by isFourBytes (λ n t. held n (yes (isFourBytes n) t)) values (subst T (sym h) tt)
-  where
-    yes : (b : Bool) → T b → b ≡ true
-    yes true t = refl
-    yes false t = absurd t
+all-held values h = each-by isFourBytes (λ n t. held n (is-true (isFourBytes n) t)) values (subst T (sym h) tt)
 
 -- ---- no two have one float
 module _ (n m : ℤ) (h : Held n) (k : Held m) where
@@ -58,18 +54,13 @@ same-values (geoid a) (shift d e f) h k s = absurd (let z : _≡_ {A = ℕ} 0 1 
 -- a float is as near as its whole answer, but for a thousandth of a unit
 float-near : (units h : ℕ) → 0 < units → units ≤ 2 ^ 53 → {f : Fraction} (n : ℤ) → Held n → Within h 1000 f n
     → NearTo (h + 1) 1000 f (inUnits units (n dividedBy units))
-float-near units h p d {f} n held w =
-    let v = within-wider 1 1000 (lit< tt) (lit≤ tt) (quotient-near units p d n held) in
-    record {
-      proper = (w .proper, v .proper);
-      near = within-both f (inUnits units (n dividedBy units)) w v;
-    }
+float-near units h p d {f} n held w = within-both f (inUnits units (n dividedBy units)) w (within-wider 1 1000 (lit< tt) (lit≤ tt) (quotient-near units p d n held))
 
 pub floats-near : (bounds : Family ℕ) (exacts : Family Fraction) (values : Family ℤ) → each isFourBytes values ≡ true
-    → AllWithin 1000 bounds exacts values → AllNear 1000 (ofEach (λ h. h + 1) bounds) exacts (inFloats values)
+    → AllWithin 1000 bounds exacts values → FloatsWithin 1000 (ofEach (λ h. h + 1) bounds) exacts (inFloats values)
 floats-near bounds exacts values four = go bounds values (all-held values four)
   where
-    go : (bounds : Family ℕ) (values : Family ℤ) → Each Held values → AllWithin 1000 bounds exacts values → AllNear 1000 (ofEach (λ h. h + 1) bounds) exacts (inFloats values)
+    go : (bounds : Family ℕ) (values : Family ℤ) → Each Held values → AllWithin 1000 bounds exacts values → FloatsWithin 1000 (ofEach (λ h. h + 1) bounds) exacts (inFloats values)
     go (shift h i j) (shift a b c) p =
         shift-so exacts
         (λ dLat dLon dH w. (
@@ -82,20 +73,10 @@ floats-near bounds exacts values four = go bounds values (all-held values four)
     go (geoid h) (shift a b c) p = λ w. w
 
 -- wider bounds, in other parts of a unit
-module _ (n m : ℕ) (p : 0 < n) where
-  wider : {f g : Fraction} (h o : ℕ) → T (leb (m * h) (o * n)) → NearTo h n f g → NearTo o m f g
-  wider {f} {g} h o t w = record {
-    proper = w .proper;
-    near = le-of-mul-le-mul-left {k = n} (omega (arith, mul-le-mul-left m (w .near), mul-le-mul-right (f .bottom * g .bottom) (leb→le (m * h) (o * n) t))) p;
-  }
-
-  pub all-wider : (narrow wide : Family ℕ) (exacts : Family Fraction) (floats : Family Float) → T (no-narrower n m narrow wide) → AllNear n narrow exacts floats → AllNear m wide exacts floats
-  all-wider (shift h i j) (shift o q r) exacts floats test =
-      let t = three (leb (m * h) (o * n)) (leb (m * i) (q * n)) (leb (m * j) (r * n)) test in
-      shift-so exacts (λ dLat dLon dH. shift-so floats (λ a b c w. (wider h o (t .0) (w .0), wider i q (t .1) (w .1), wider j r (t .2) (w .2))))
-  all-wider (geoid h) (geoid o) exacts floats test = geoid-so exacts (λ height. geoid-so floats (λ a. wider h o test))
-  all-wider (shift h i j) (geoid o) exacts floats test = absurd test
-  all-wider (geoid h) (shift o q r) exacts floats test = absurd test
+pub floats-wider : (n m : ℕ) → 0 < n → (narrow wide : Family ℕ) (exacts : Family Fraction) (floats : Family Float) → T (no-narrower n m narrow wide)
+    → FloatsWithin n narrow exacts floats → FloatsWithin m wide exacts floats
+floats-wider n m p narrow wide exacts floats =
+    all-nearer (λ h o. leb (m * h) (o * n)) (λ h o f g t w. near-wider o m p (leb→le (m * h) (o * n) t) w) narrow wide exacts (allInUnits floats)
 
 -- ---- of an answer
 pub gave : (whole : Answer (Family ℤ)) {floats : Family Float} → answerInFloats whole ≡ gives floats → (values : Family ℤ) × ((whole ≡ gives values) × (inFloats values ≡ floats))

@@ -1,4 +1,4 @@
--- The floats of the code's constants, what a division by one gives, and calls on a point. Assumes nothing.
+-- The floats of the code's constants, what dividing by such a constant gives, and calls on a point. Assumes nothing.
 use mathlib.Core.Path.{_≡_, refl, sym, ap, _∙_}
 use mathlib.Core.List.{List}
 use Prim.Native.Nat.{ℕ}
@@ -28,7 +28,7 @@ pub no-value : ofBits binary64 0 ≡ zero
 unfolding ofBits ofInt round
 no-value = refl
 
--- a result of 4 bytes, divided by one of them
+-- a result of 4 bytes, divided by a constant
 pub once-divided : (units : ℕ) {constant : Float} (n m : ℤ) → constant ≡ ofInt binary64 (pos units) → SFits w32 n → n ≡ m
     → div binary64 (ofInt binary64 (toZ w32 (ofZ w32 n))) constant ≡ m dividedBy units
 once-divided units n m e fits same = λ i. div binary64 (ofInt binary64 ((of fits .reads ∙ same) i)) (e i)

@@ -6,7 +6,7 @@ use mathlib.Core.Logic.{_↔_, _⊎_, inl, inr}
 use Prim.Native.Nat.{ℕ, _+_, _<_}
 use native.Mathlib.Nat.{le-trans}
 use native.Mathlib.Omega.{arith}
-use lib.Dec.{T, lit<, lit≤, le→leb}
+use lib.Dec.{T, lit<, lit≤}
 use lib.IntN.{ℤ, pos, negℤ}
 use lib.Ieee.{Float, binary64, div, ofBits, ofInt, round}
 use Rattle.whole.specs.Round.{roundDiv}
@@ -22,51 +22,41 @@ use Rattle.datum.specs.Exact.{exact, demanded, boundsOf}
 use Rattle.datum.proofs.Codes.{six}
 use Rattle.datum.proofs.Errors.{no-narrower}
 use Rattle.datum.proofs.Demands as datum
-use Rattle.floating.specs.Floats.{seconds, metres, inFloats, answerInFloats, floatingOf, zero}
+use Rattle.floating.specs.Floats.{perSecond, perMetre, seconds, metres, inFloats, answerInFloats, floatingOf, zero}
 use Rattle.floating.specs.Cases.{floatsSay, floatAnswer}
-use Rattle.floating.specs.Value.{valueOf, inUnits, NearTo, AllNear}
+use Rattle.floating.specs.Value.{valueOf, inUnits, FloatsWithin}
 use Rattle.floating.specs.declared.ShiftFloats.{ShiftFloats}
 use Rattle.floating.specs.declared.Answer.{Answer}
 use Rattle.floating.specs.declared.Answer.the-variants.{Shift, Geoid, Refused}
+use Rattle.floating.proofs.Calls.{per-second, per-metre, no-value}
 use Rattle.floating.proofs.Quotients.{whole-exact, quotient-near}
 use Rattle.floating.proofs.Answers as answers
 
--- ---- what a float's number and 'near to' mean, shown: -0.75 is -3 / 4; 1 / 2 and 3 / 2 are within 1 of each other, and not within 1 / 2
-pub record Shown : Type 0 where
-  pub number : valueOf (ofBits binary64 0xbfe8_0000_0000_0000) ≡ negℤ (pos 3) over 4
-  pub near : NearTo 1 1 (pos 1 over 2) (pos 3 over 2)
-  pub not-nearer : NearTo 1 2 (pos 1 over 2) (pos 3 over 2) → ⊥
-
-pub shown : Shown
+-- ---- the number that a float is, shown: -0.75 is -3 / 4
+pub value-shown : valueOf (ofBits binary64 0xbfe8_0000_0000_0000) ≡ negℤ (pos 3) over 4
 unfolding ofBits
-shown = record {
-  number = refl;
-  near = record { proper = (lit< tt, lit< tt); near = lit≤ tt };
-  not-nearer = (λ c. absurd (le→leb _ _ (c .near)));
-}
+value-shown = refl
 
 -- ---- 'the whole answer made a 64-bit float without loss'
 pub without-loss : (n : ℤ) → isFourBytes n ≡ true → Within 0 1 (valueOf (ofInt binary64 n)) n
 without-loss n h = whole-exact n (le-trans (answers.held n h) (lit≤ tt))
 
--- ---- 'then divided once by 100000 or by 1000': the divisors are these numbers exactly, and have these bits. That the code
--- divides by the same is the promise of `seconds` and `metres`
+-- ---- 'then divided once by 100000 or by 1000': the divisors are these numbers exactly, and have the bits of the code's constants
 pub record Divisors : Type 0 where
-  pub second : valueOf (ofInt binary64 (pos 100000)) ≡ whole (pos 100000)
-  pub metre : valueOf (ofInt binary64 (pos 1000)) ≡ whole (pos 1000)
-  pub second-bits : ofInt binary64 (pos 100000) ≡ ofBits binary64 0x40f8_6a00_0000_0000
-  pub metre-bits : ofInt binary64 (pos 1000) ≡ ofBits binary64 0x408f_4000_0000_0000
+  pub second : valueOf (ofInt binary64 (pos perSecond)) ≡ whole (pos 100000)
+  pub metre : valueOf (ofInt binary64 (pos perMetre)) ≡ whole (pos 1000)
+  pub second-bits : ofBits binary64 0x40f8_6a00_0000_0000 ≡ ofInt binary64 (pos perSecond)
+  pub metre-bits : ofBits binary64 0x408f_4000_0000_0000 ≡ ofInt binary64 (pos perMetre)
 
 pub divisors : Divisors
-unfolding ofInt ofBits round
-divisors = record { second = refl; metre = refl; second-bits = refl; metre-bits = refl }
+unfolding ofInt round
+divisors = record { second = refl; metre = refl; second-bits = per-second; metre-bits = per-metre }
 
 -- and the zero of a refusal is no -0
-pub zero-worked : zero ≡ ofBits binary64 0x0000_0000_0000_0000
-unfolding ofInt ofBits round
-zero-worked = refl
+pub zero-worked : ofBits binary64 0x0000_0000_0000_0000 ≡ zero
+zero-worked = no-value
 
--- ---- 'rounded by IEEE 754': whole answers, and the bits of their floats
+-- ---- 'rounded by IEEE 754': whole numbers, and the bits of their floats
 abbrev angles : List (ℤ × ℕ)
 angles =
     (negℤ (pos 384288), 0xc00e_be37_de93_9eae)
@@ -106,7 +96,7 @@ pub centres : Centres
 unfolding roundDiv power powersOf sum div ofInt ofBits round
 centres = record { code-1 = refl; code-5 = refl }
 
--- ---- the map program gets the handheld's answer and no other
+-- ---- no two whole answers have one floating answer
 -- times its units, a float is within 1 / 4194304 of the whole answer
 pub near-whole : (n : ℤ) → isFourBytes n ≡ true → Within 1 4194304 (inUnits 100000 (seconds n)) n × Within 1 4194304 (inUnits 1000 (metres n)) n
 near-whole n h = (quotient-near 100000 (lit< tt) (lit≤ tt) n (answers.held n h), quotient-near 1000 (lit< tt) (lit≤ tt) n (answers.held n h))
@@ -138,24 +128,24 @@ module _ (code latitude longitude : ℤ) where
   pub never-5 : floatingOf code latitude longitude ≡ refused 5 → ⊥
   never-5 h = datum.answer-never-5 code latitude longitude (same-refusal 5 .0 h)
 
-  -- ---- demand 3: how near a float is to the exact value of the printed polynomial
-  -- within the bound of its equation, and a thousandth of a unit more
+  -- ---- demand 3: how near a float is, in units, to the exact value of the printed polynomial
+  -- within the bound of its equation and one thousandth of a unit together
   pub within-bounds : {floats : Family Float} → floatingOf code latitude longitude ≡ gives floats
-      → AllNear 1000 (ofEach (λ h. h + 1) (boundsOf code)) (exact (pageOf code) latitude longitude) floats
+      → FloatsWithin 1000 (ofEach (λ h. h + 1) (boundsOf code)) (exact (pageOf code) latitude longitude) floats
   within-bounds {floats} h =
       let g = answered floats .0 h in
-      subst (AllNear 1000 (ofEach (λ h. h + 1) (boundsOf code)) (exact (pageOf code) latitude longitude)) (g .1 .1)
+      subst (FloatsWithin 1000 (ofEach (λ h. h + 1) (boundsOf code)) (exact (pageOf code) latitude longitude)) (g .1 .1)
       (answers.floats-near (boundsOf code) (exact (pageOf code) latitude longitude) (g .0)
       (datum.four-bytes isEither code latitude longitude (g .1 .0)) (datum.within-bounds isEither code latitude longitude (g .1 .0)))
 
   -- so within two units of an angle, and one of a height
   pub as-demanded : {floats : Family Float} → floatingOf code latitude longitude ≡ gives floats
-      → AllNear 1 (demanded floats) (exact (pageOf code) latitude longitude) floats
+      → FloatsWithin 1 (demanded floats) (exact (pageOf code) latitude longitude) floats
   as-demanded {floats} h =
       let g = answered floats .0 h in
       let p = datum.answered isEither code latitude longitude (g .0) .0 (g .1 .0) in
       let e : inFloats (worked (pageOf code) latitude longitude) ≡ floats = ap inFloats (p .1 .1) ∙ g .1 .1 in
-      answers.all-wider 1000 1 (lit< tt) (ofEach (λ h. h + 1) (boundsOf code)) (demanded floats) (exact (pageOf code) latitude longitude) floats
+      answers.floats-wider 1000 1 (lit< tt) (ofEach (λ h. h + 1) (boundsOf code)) (demanded floats) (exact (pageOf code) latitude longitude) floats
       (subst (λ (f : Family Float). T (no-narrower 1000 1 (ofEach (λ h. h + 1) (boundsOf code)) (demanded f))) e
       (six (λ z. T (no-narrower 1000 1 (ofEach (λ h. h + 1) (boundsOf z)) (demanded (inFloats (worked (pageOf z) latitude longitude))))) tt tt tt tt tt tt code (p .0 .0)))
       (within-bounds h)

@@ -40,7 +40,7 @@ closest-near a b B = go (compare (a % b * 2) b) (leb→le (a % b * 2) b) (nleb�
     go Ordering·gt h k e s r = let above : b < a % b * 2 = k tt in (omega arith, omega arith)
 
 -- ---- a / c, in units of which L make 1, rounded to p digits
--- Where a is at most A, p - 1 digits are enough for A * M, and c is at most L / M, so is c times the last place that is kept.
+-- Where a is at most A, A * M at most 2 ^ (p - 1), and c at most L / M, c times the last place that is kept is at most L / M.
 module _ (p a A c L M : ℕ) (P : 0 < p) (C : 0 < c) (O : 0 < A) (most : a ≤ A) (digits : A * M ≤ 2 ^ (p - 1)) (fine : c * M ≤ L) where
   digit-small : (k : ℕ) → k ≡ drop p (a * L) c → c * 2 ^ k * M ≤ L
   digit-small zero e = subst (λ (x : ℕ). c * x * M ≤ L) (sym (pow-zero 2)) (subst (λ (x : ℕ). x * M ≤ L) (sym (mul-one c)) fine)
@@ -55,11 +55,11 @@ module _ (p a A c L M : ℕ) (P : 0 < p) (C : 0 < c) (O : 0 < A) (most : a ≤ A
       limit : A * M * (2 ^ suc k * c) ≤ 2 ^ (p - 1) * (2 ^ suc k * c)
       limit = mul-le-mul-right (2 ^ suc k * c) digits
 
-  abbrev grid : ℕ
-  grid = kept p (a * L) c * 2 ^ drop p (a * L) c
+  abbrev places : ℕ
+  places = kept p (a * L) c * 2 ^ drop p (a * L) c
 
-  grid-near : (2 * M * (grid * c) ≤ 2 * M * (a * L) + L) × (2 * M * (a * L) ≤ 2 * M * (grid * c) + L)
-  grid-near =
+  places-near : (2 * M * (places * c) ≤ 2 * M * (a * L) + L) × (2 * M * (a * L) ≤ 2 * M * (places * c) + L)
+  places-near =
       let k = drop p (a * L) c in
       let x = kept p (a * L) c in
       let near = closest-near (a * L) (c * 2 ^ k) (mul-pos C (pow-pos k)) in
@@ -75,18 +75,21 @@ module _ (p a A c L M : ℕ) (P : 0 < p) (C : 0 < c) (O : 0 < A) (most : a ≤ A
       beyond x d h s = omega arith
 
 -- ---- a quotient as a float: so many of the smallest values, of which `one` make 1, that c times as many are near a * one
--- A float has 53 digits, and a is at most 2 ^ 31: that leaves 2 ^ 21 of 2 ^ 52 for M. A rounding errs by half the last place, so
--- the float by 1 / 2 ^ 22 of a unit: 4194304.
 abbrev one : ℕ
 one = 2 ^ 1074
+
+-- A float has 53 digits, and a is at most 2 ^ 31: that leaves 2 ^ 21 of 2 ^ 52 for M. A rounding errs by half the last place, so
+-- c times the float errs by 1 / 2 ^ 22 at most.
+abbrev fine : ℕ
+fine = 4194304
 
 record Rounded (x : Float) (s : Bool) (a c : ℕ) : Type 0 where
   grains : ℕ
   value : HasValue x s grains one
-  at-most : 4194304 * (grains * c) ≤ 4194304 * (a * one) + one
-  at-least : 4194304 * (a * one) ≤ 4194304 * (grains * c) + one
+  at-most : fine * (grains * c) ≤ fine * (a * one) + one
+  at-least : fine * (a * one) ≤ fine * (grains * c) + one
 
-near-limit : (g a c l : ℕ) → 0 < c → a ≤ 2147483648 → 4194304 * (g * c) ≤ 4194304 * (a * l) + l → g ≤ 4294967296 * l
+near-limit : (g a c l : ℕ) → 0 < c → a ≤ 2147483648 → fine * (g * c) ≤ fine * (a * l) + l → g ≤ 4294967296 * l
 near-limit g a c l C h n =
     let once : g * 1 ≤ g * c = mul-le-mul-left g C in
     let limit = mul-le-mul-right l h in
@@ -94,7 +97,7 @@ near-limit g a c l C h n =
 
 rounded-near : (s : Bool) (a c : ℕ) → 0 < c → a ≤ 2147483648 → c ≤ 2 ^ 53 → Rounded (round binary64 s a c) s a c
 rounded-near s a c C h d =
-    let near = grid-near 53 a 2147483648 c one 2097152 (lit< tt) C (lit< tt) h (lit≤ tt) (le-trans (mul-le-mul-right 2097152 d) (lit≤ tt)) in
+    let near = places-near 53 a 2147483648 c one 2097152 (lit< tt) C (lit< tt) h (lit≤ tt) (le-trans (mul-le-mul-right 2097152 d) (lit≤ tt)) in
     let k = drop 53 (a * one) c in
     let x = kept 53 (a * one) c in
     record {
@@ -135,14 +138,14 @@ divided-is (fin t m e) (fin u (suc n) d) s a c C h k =
     ∙ round-same binary64 s (m * up e * down d) (suc n * up d * down e) a c (mul-pos (mul-pos (zero-lt-suc n) (up-pos d)) (down-pos e)) C (same-fraction a c (m * up e) (down e) (suc n * up d) (down d) (h .1) (k .1))
 
 -- ---- the same in fractions
-apart : (a b l : ℕ) → 4194304 * a ≤ 4194304 * b + l → 4194304 * b ≤ 4194304 * a + l → 4194304 * natAbs (pos a -ℤ pos b) ≤ l
-apart a b l h k = rw (pos-sub a b) (omega (arith, abs-sub a b (l / 4194304) (omega arith) (omega arith)))
+apart : (a b l : ℕ) → fine * a ≤ fine * b + l → fine * b ≤ fine * a + l → fine * natAbs (pos a -ℤ pos b) ≤ l
+apart a b l h k = rw (pos-sub a b) (omega (arith, abs-sub a b (l / fine) (omega arith) (omega arith)))
 
 value-signed : (s : Bool) (m : ℕ) (e : ℤ) → valueOf (fin s m e) ≡ signed (not s) (m * up e) over down e
 value-signed true m e = refl
 value-signed false m e = refl
 
--- what a float that is g / l is near to, times c
+-- a float that is g / l, times c, is near what g * c / l is near
 of-value : (s : Bool) (g c l : ℕ) (x : Float) {h n : ℕ} {y : ℤ} → HasValue x s g l → Within h n (signed (not s) (g * c) over l) y → Within h n (valueOf x times whole (pos c)) y
 of-value s g c l nan v w = absurd v
 of-value s g c l (inf t) v w = absurd v
@@ -174,30 +177,30 @@ unfolding ofInt
 whole-exact (pos a) h = exactly false a h
 whole-exact (negsuc k) h = exactly true (suc k) h
 
--- times c, the quotient is within 1 / 4194304 of the number that was divided
-near-within : (s : Bool) (a c : ℕ) (x : Float) → Rounded x s a c → Within 1 4194304 (valueOf x times whole (pos c)) (signed (not s) a)
+-- times c, the quotient is within 1 / fine of the number that was divided
+near-within : (s : Bool) (a c : ℕ) (x : Float) → Rounded x s a c → Within 1 fine (valueOf x times whole (pos c)) (signed (not s) a)
 near-within s a c x n = of-value s (n .grains) c one x (n .value) (record { proper = lit< tt; near = near })
   where
-    near : 4194304 * natAbs (signed (not s) a *ℤ pos one -ℤ signed (not s) (n .grains * c)) ≤ 1 * one
+    near : fine * natAbs (signed (not s) a *ℤ pos one -ℤ signed (not s) (n .grains * c)) ≤ 1 * one
     near =
-        subst (λ (z : ℤ). 4194304 * natAbs (z -ℤ signed (not s) (n .grains * c)) ≤ 1 * one) (sym (signed-*-pos (not s) a one))
-        (subst (λ (k : ℕ). 4194304 * k ≤ 1 * one) (sym (signed-apart (not s) (a * one) (n .grains * c)))
+        subst (λ (z : ℤ). fine * natAbs (z -ℤ signed (not s) (n .grains * c)) ≤ 1 * one) (sym (signed-*-pos (not s) a one))
+        (subst (λ (k : ℕ). fine * k ≤ 1 * one) (sym (signed-apart (not s) (a * one) (n .grains * c)))
         (apart (a * one) (n .grains * c) one (n .at-least) (n .at-most)))
 
--- c is at most 2 ^ 53, and what is divided is held in 4 bytes
+-- c is at most 2 ^ 53, and what is divided at most 2 ^ 31 in size
 module _ (c : ℕ) (C : 0 < c) (d : c ≤ 2 ^ 53) where
-  divided-near : (s : Bool) (a : ℕ) → a ≤ 2147483648 → Within 1 4194304 (valueOf (div binary64 (round binary64 s a 1) (round binary64 false c 1)) times whole (pos c)) (signed (not s) a)
+  divided-near : (s : Bool) (a : ℕ) → a ≤ 2147483648 → Within 1 fine (valueOf (div binary64 (round binary64 s a 1) (round binary64 false c 1)) times whole (pos c)) (signed (not s) a)
   divided-near s a h =
       near-within s a c _
       (subst (λ (x : Float). Rounded x s a c)
       (sym (divided-is (round binary64 s a 1) (round binary64 false c 1) s a c C (round-whole binary64 s a (le-trans h (lit≤ tt))) (round-whole binary64 false c d)))
       (rounded-near s a c C h d))
 
-  pub quotient-near : (n : ℤ) → natAbs n ≤ 2147483648 → Within 1 4194304 (valueOf (n dividedBy c) times whole (pos c)) n
+  pub quotient-near : (n : ℤ) → natAbs n ≤ 2147483648 → Within 1 fine (valueOf (n dividedBy c) times whole (pos c)) n
   unfolding ofInt
   quotient-near (pos a) h = divided-near false a h
   quotient-near (negsuc k) h = divided-near true (suc k) h
 
   -- so no two give one float
   pub same-whole : (n m : ℤ) → natAbs n ≤ 2147483648 → natAbs m ≤ 2147483648 → n dividedBy c ≡ m dividedBy c → n ≡ m
-  same-whole n m h k e = one-number n m (lit< tt) (quotient-near n h) (subst (λ (x : Float). Within 1 4194304 (valueOf x times whole (pos c)) m) (sym e) (quotient-near m k))
+  same-whole n m h k e = one-number n m (lit< tt) (quotient-near n h) (subst (λ (x : Float). Within 1 fine (valueOf x times whole (pos c)) m) (sym e) (quotient-near m k))

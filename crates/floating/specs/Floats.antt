@@ -7,7 +7,7 @@ use Rattle.datum.specs.Page.{Family, shift, geoid}
 use Rattle.datum.specs.Point.{answerOf}
 
 -- the whole answer made a 64-bit float, then divided once, rounded by IEEE 754
-infixl 20 _dividedBy_
+infix 20 _dividedBy_
 abbrev pub _dividedBy_ : ℤ → ℕ → Float
 n dividedBy units = div binary64 (ofInt binary64 n) (ofInt binary64 (pos units))
 

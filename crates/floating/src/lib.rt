@@ -24,9 +24,9 @@ pub enum Answer {
     Refused(u8),
 }
 
-// What the point's datum has. Refused, in this order, with 4 where there is no such code, 3 where a coordinate is out of
-// range, 6 outside the datum's area; never with 5.
-// floating(1, 126_000_000, 118_800_000), the centre of code 1, gives -3.84288, -1.10294 and 24.43.
+// The shifts of the point or its geoid height, whichever its datum has. Refused, in this order, with 4 where there is no such
+// code, 3 where a coordinate is out of range, 6 outside the datum's area; never with 5.
+// floating(1, 126_000_000, 118_800_000), the centre of code 1, gives the floats nearest to -3.84288, -1.10294 and 24.43.
 pub fn floating(code: i64, latitude: i64, longitude: i64) -> Answer
     ensures { λ r. ⌜ floatAnswer r ≡ floatingOf code latitude longitude ⌝ }
 {
@@ -83,7 +83,7 @@ impl Answer {
 }
 
 impl ShiftFloats {
-    // Whole shifts in seconds and metres.
+    // Whole shifts as floats, in seconds and metres.
     pub fn of(shifts: Shifts) -> ShiftFloats
         ensures { λ r. ⌜ floatsSay r ≡ inFloats (shiftSays shifts) ⌝ }
     {

@@ -49,7 +49,7 @@ numbers-tabled Room = (omega arith, omega arith)
 numbers-tabled Foreign = (omega arith, omega arith)
 numbers-tabled Sheet = (omega arith, omega arith)
 
--- of an answer in numbers, a number above 0 is that of its refusal
+-- an answer is refused with n, above 0, exactly where n is its number
 pub by-number : {A : Type 0} (answer : Answer A) (n : ℕ) → 0 < n → (answer ≡ refused n) ↔ (refusalOf answer ≡ n)
 by-number (gives value) n h = ((λ e. absurd (not-both e)), (λ e. absurd (omega (arith, h, e))))
 by-number (refused m) n h = (ap refusalOf, ap refused)

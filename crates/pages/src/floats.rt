@@ -6,6 +6,7 @@ use kinds::AngleShift;
 use kinds::Height;
 use libc::STDOUT_FILENO;
 
+// A NaN, which alone differs from itself, has no bits that could be asked for.
 fn bits(x: f64) {
     if x == x {
         io::write_all(STDOUT_FILENO, b" ");
