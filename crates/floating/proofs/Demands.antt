@@ -89,7 +89,8 @@ metres-worked = refl
 
 -- and whole points: the centres of codes 1 and 5
 pub record Centres : Type 0 where
-  pub code-1 : floatingOf (pos 1) (pos 126000000) (pos 118800000) ≡ gives (shift (ofBits binary64 0xc00e_be37_de93_9eae) (ofBits binary64 0xbff1_a5a4_69d7_342f) (ofBits binary64 0x4038_6e14_7ae1_47ae))
+  pub code-1 : floatingOf (pos 1) (pos 126000000) (pos 118800000)
+      ≡ gives (shift (ofBits binary64 0xc00e_be37_de93_9eae) (ofBits binary64 0xbff1_a5a4_69d7_342f) (ofBits binary64 0x4038_6e14_7ae1_47ae))
   pub code-5 : floatingOf (pos 5) (pos 25200000) (pos 288000000) ≡ gives (geoid (ofBits binary64 0xbfef_53f7_ced9_1687))
 
 pub centres : Centres
