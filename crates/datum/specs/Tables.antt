@@ -43,7 +43,7 @@ ends page =
     && not (inArea page (pos (page .south)) (pos (page .west - 1)))
     && not (inArea page (pos (page .north)) (pos (page .east + 1)))
 
--- whether a test holds of every page
-abbrev pub every : (Page → Bool) → List Page → Bool
+-- whether a test holds of every one
+abbrev pub every : {A : Type 0} → (A → Bool) → List A → Bool
 every test [] = true
-every test (page ∷ rest) = test page && every test rest
+every test (one ∷ rest) = test one && every test rest

@@ -1,6 +1,6 @@
 -- Document 01, 'Refusal numbers': what a call answers, and what it leaves in a lent buffer.
 use mathlib.Core.Bool.{Bool, true, false}
-use mathlib.Core.List.{List, _++_}
+use mathlib.Core.List.{List, [], _∷_, _++_}
 use Prim.Native.Nat.{ℕ}
 use lib.Dec.{leb}
 use lib.ListN.{length, drop}
@@ -16,6 +16,21 @@ pub data Answer (A : Type 0) : Type 0 where
 abbrev pub provided : {A : Type 0} → Bool → ℕ → Answer A → Answer A
 provided true n a = a
 provided false n a = refused n
+
+-- a test, and the number that is given where it does not hold
+infix 10 _else_
+pub data Test : Type 0 where
+  _else_ : Bool → ℕ → Test
+
+-- the answer where all tests hold, and the number of the first that does not
+abbrev pub inOrder : {A : Type 0} → List Test → Answer A → Answer A
+inOrder [] a = a
+inOrder ((holds else n) ∷ tests) a = provided holds n (inOrder tests a)
+
+-- what follows from a value; a refusal stays
+abbrev pub following : {A B : Type 0} → Answer A → (A → Answer B) → Answer B
+following (gives value) next = next value
+following (refused n) next = refused n
 
 -- the number of the refusal, or 0 where there is a value
 abbrev pub refusalOf : {A : Type 0} → Answer A → ℕ

@@ -14,7 +14,8 @@ use borrow.Author.Tests.{eq-eqb, ne-eqb, eqb-true, lt-ltb, leb-true, ltb-true}
 use Rattle.whole.proofs.Bools.{both, either}
 use Rattle.kinds.specs.Answer.{gives}
 use Rattle.kinds.proofs.Answers.{passed, same-value}
-use Rattle.position.specs.Text.{Coordinate, latitude, longitude, letterN, letterS, letterE, fullStop, places, textLength, inRange, isLetter, letterOf, formed, ms, digits, number, allDigits, part, degrees, minutes, seconds, point, thousandths, letter, isAngle, inSixties, angle, signed, noZeroSouth, rightKinds, value, rightRanges, read, spelled, text}
+use Rattle.kinds.specs.Bytes.{part}
+use Rattle.position.specs.Text.{Coordinate, latitude, longitude, letterN, letterS, letterE, fullStop, places, textLength, inRange, isLetter, letterOf, formed, ms, digits, number, allDigits, degrees, minutes, seconds, point, thousandths, letter, isAngle, inSixties, angle, signed, noZeroSouth, rightKinds, value, rightRanges, read, spelled, text}
 use Rattle.position.proofs.Bytes.{by-bytes}
 use Rattle.position.proofs.Digits.{all-digits, number-of, digits-of, number-below}
 

@@ -5,8 +5,9 @@ use mathlib.Core.List.{List, [], _∷_, _++_}
 use Prim.Native.Nat.{ℕ, zero, suc, _+_, _-_, _*_, _/_, _%_, _^_}
 use lib.Dec.{eqb, leb, ltb}
 use lib.IntN.{ℤ, pos, negsuc, negℤ, natAbs}
-use lib.ListN.{length, getD, take, drop}
+use lib.ListN.{length, getD}
 use Rattle.kinds.specs.Answer.{Answer, gives, provided, placed}
+use Rattle.kinds.specs.Bytes.{part}
 use Rattle.kinds.specs.Kinds.{isLatitude, isLongitude}
 
 pub data Coordinate : Type 0 where
@@ -82,10 +83,6 @@ abbrev pub ms : ℕ → ℕ → ℕ → ℕ → ℕ
 ms d m s f = d * 3600000 + m * 60000 + s * 1000 + f
 
 -- ---- its parts
--- n bytes from a place on
-abbrev pub part : ℕ → ℕ → List ℕ → List ℕ
-part from n t = take n (drop from t)
-
 abbrev pub degrees : Coordinate → List ℕ → List ℕ
 degrees k t = part 0 (places k) t
 

@@ -10,8 +10,9 @@ ghost use mathlib.Core.Path.{_≡_};
 ghost use Prim.Native.Nat.{_+_, _%_, _<_, _≤_};
 ghost use lib.ListN.{length};
 ghost use Rattle.kinds.specs.Answer.{placed, counted, lent};
+ghost use Rattle.kinds.specs.Bytes.{part};
 ghost use Rattle.kinds.specs.Cases.{localLatitude, localLongitude, written};
-ghost use Rattle.position.specs.Text.{latitude, longitude, isDigit, digitOf, allDigits, number, part, isAngle, inSixties, angle, read, spelled, write};
+ghost use Rattle.position.specs.Text.{latitude, longitude, isDigit, digitOf, allDigits, number, isAngle, inSixties, angle, read, spelled, write};
 
 // Reads the 11 bytes `ddmmss.sssN` or `S` into ms, north positive: `900000.000N` is 324000000. Refused: 1 another length, 2 a
 // byte that is not of its kind, 3 minutes or seconds from 60 up, past 90°, or S after zero.

@@ -1,0 +1,52 @@
+-- What the private functions of this crate promise one another.
+use mathlib.Core.Bool.{Bool, false}
+use mathlib.Core.List.{List, [], _∷_, map, flatMap}
+use Prim.Native.Nat.{ℕ}
+use lib.IntN.{ℤ}
+use lib.ListN.{getD}
+use Rattle.kinds.specs.Answer.{Answer, gives, refused, numberOf, inOrder, placed}
+use Rattle.datum.specs.Tables.{every}
+use Rattle.sheet.specs.Numbers.{inBytes, complement}
+use Rattle.sheet.specs.Sheet.{Point, datums, count, point, points, pieces, pointLength, isListed, serialTests, countTests, pointTests, said}
+use Rattle.sheet.specs.Result.{inRecord, answerAt, resultOf}
+use Rattle.sheet.specs.declared.Layout.{Layout}
+use Rattle.sheet.specs.declared.LayoutAnswer.{LayoutAnswer}
+use Rattle.sheet.specs.declared.LayoutAnswer.the-variants as Laid
+
+-- ---- reading
+abbrev pub layoutAnswer : LayoutAnswer → Answer Layout
+layoutAnswer (Laid.Gives layout) = gives layout
+layoutAnswer (Laid.Refused why) = refused (numberOf why)
+
+-- after the serial's tests
+unfoldable pub laidOut : List ℕ → Answer Layout
+laidOut bytes = inOrder (countTests bytes) (gives (record { datums = datums bytes; points = count bytes }))
+
+unfoldable pub readOf : ℤ → List ℕ → Answer Layout
+readOf unit bytes = inOrder (serialTests unit bytes) (laidOut bytes)
+
+-- by code, from 0 to 6, whether it is listed
+abbrev pub flags : List ℕ → List Bool
+flags codes =
+    isListed codes 0 ∷ isListed codes 1 ∷ isListed codes 2 ∷ isListed codes 3 ∷ isListed codes 4 ∷ isListed codes 5
+    ∷ isListed codes 6 ∷ []
+
+unfoldable pub allFlagged : List Bool → ℕ → List ℕ → Bool
+allFlagged flags n body = every (λ p. getD flags (p .code) false) (map point (pieces n pointLength body))
+
+-- ---- working
+-- three values beside a refusal number or 0
+unfoldable pub recordOf : ℕ → ℤ → ℤ → ℤ → List ℕ
+recordOf refusal first second third = refusal ∷ flatMap (λ value. inBytes 4 (complement value)) (first ∷ second ∷ third ∷ [])
+
+-- the record of a point's bytes
+unfoldable pub worked : List ℕ → List ℕ
+worked bytes = inRecord (answerAt (point bytes))
+
+-- and of the first n points
+unfoldable pub records : ℕ → List ℕ → List ℕ
+records n body = flatMap worked (pieces n pointLength body)
+
+-- after the tests of `readOf`
+unfoldable pub finished : List ℕ → ℕ → Answer (List ℕ)
+finished bytes room = inOrder (pointTests bytes) (placed (resultOf (said bytes)) room)

@@ -1,0 +1,4 @@
+pub mod Numbers
+pub mod Sheet
+pub mod Result
+pub mod Inside

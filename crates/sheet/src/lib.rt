@@ -1,0 +1,260 @@
+// The unit sheet and its result: a sheet made for another unit is refused as such, and what is accepted is worked point by
+// point into a lent buffer.
+mod number;
+
+use datum::PointAnswer;
+use kinds::Refusal;
+use kinds::WrittenAnswer;
+ghost use mathlib.Core.Path.{_≡_};
+ghost use mathlib.Core.Bool.{true, false};
+ghost use mathlib.Core.List.{_++_};
+ghost use Prim.Native.Nat.{_*_, _≤_};
+ghost use lib.ListN.{length, getD, drop};
+ghost use Rattle.kinds.specs.Answer.{gives, counted, lent};
+ghost use Rattle.kinds.specs.Cases.{written};
+ghost use Rattle.sheet.specs.Sheet.{rise};
+ghost use Rattle.sheet.specs.Result.{workOf};
+ghost use Rattle.sheet.specs.Inside.{layoutAnswer, readOf, laidOut, flags, allFlagged, recordOf, worked, records, finished};
+
+// Works the sheet of a unit: writes the result to the start of a lent buffer and says how many bytes, 6 and 13 for each point.
+// Refused, in the order of the sheet's bytes: 1 where it is cut or bytes follow, 9 where its serial is zero, a count is over
+// its limit or the codes are wrong, 8 where it is another unit's; then 9 where a point's code is not listed, 7 where the result
+// has no room. A point that is out of range or outside its area does not refuse the sheet: the result has its number.
+// A unit whose own number is no serial, 1 to 4294967295, is given 8 for any sheet with a serial.
+pub fn work(unit: i64, sheet: &[u8], result: &mut [u8]) -> WrittenAnswer
+    ensures { λ r. ⌜ written r ≡ counted (workOf unit (now (sheet .entry)) (length (now (result .entry)))) ⌝ }
+    ensures { λ r. ⌜ now (result .exit) ≡ lent (workOf unit (now (sheet .entry)) (length (now (result .entry)))) (now (result .entry)) ⌝ }
+{
+    match read(unit, sheet) {
+        LayoutAnswer::Gives(layout) => finished(layout, sheet, result),
+        LayoutAnswer::Refused(why) => WrittenAnswer::Refused(why),
+    }
+}
+
+// How many datums and points a sheet has, which says where each of its parts is.
+struct Layout {
+    datums: usize,
+    points: usize,
+}
+
+enum LayoutAnswer {
+    Gives(Layout),
+    Refused(Refusal),
+}
+
+// The listed codes: by code, from 0, whether it is listed.
+struct Flags([bool; 7]);
+
+// the most that a sheet may have
+const MOST_DATUMS: usize = 6;
+
+const MOST_POINTS: usize = 500;
+
+// where the count of datums and the codes are in a sheet
+const DATUMS: usize = 4;
+
+const CODES: usize = 5;
+
+// in bytes: the count of points, a point; the start of a result, a point's record in it
+const COUNT: usize = 2;
+
+const POINT: usize = 9;
+
+const HEAD: usize = 6;
+
+const RECORD: usize = 13;
+
+// Tests the serial, and then the rest but for the points' codes.
+fn read(unit: i64, sheet: &[u8]) -> LayoutAnswer
+    ensures { λ r. ⌜ layoutAnswer r ≡ readOf unit (now (sheet .entry)) ⌝ }
+{
+    if sheet.len() < DATUMS {
+        return LayoutAnswer::Refused(Refusal::Length);
+    }
+    let serial = number::four(sheet, 0);
+    if serial == 0 {
+        return LayoutAnswer::Refused(Refusal::Sheet);
+    }
+    if serial as i64 != unit {
+        return LayoutAnswer::Refused(Refusal::Foreign);
+    }
+    laid_out(sheet)
+}
+
+fn laid_out(sheet: &[u8]) -> LayoutAnswer
+    ensures { λ r. ⌜ layoutAnswer r ≡ laidOut (now (sheet .entry)) ⌝ }
+{
+    if sheet.len() < CODES {
+        return LayoutAnswer::Refused(Refusal::Length);
+    }
+    let datums = sheet[DATUMS] as usize;
+    if MOST_DATUMS < datums {
+        return LayoutAnswer::Refused(Refusal::Sheet);
+    }
+    let counted = CODES + datums;
+    if sheet.len() < counted {
+        return LayoutAnswer::Refused(Refusal::Length);
+    }
+    if !rise(&sheet[CODES..counted]) {
+        return LayoutAnswer::Refused(Refusal::Sheet);
+    }
+    let body = counted + COUNT;
+    if sheet.len() < body {
+        return LayoutAnswer::Refused(Refusal::Length);
+    }
+    let points = number::two(sheet, counted);
+    if MOST_POINTS < points {
+        return LayoutAnswer::Refused(Refusal::Sheet);
+    }
+    if sheet.len() != body + points * POINT {
+        return LayoutAnswer::Refused(Refusal::Length);
+    }
+    LayoutAnswer::Gives(Layout { datums, points })
+}
+
+// Whether each code is above the one before, from 1 to 6.
+fn rise(codes: &[u8]) -> bool
+    ensures { λ r. ⌜ r ≡ rise 0 (now (codes .entry)) ⌝ }
+{
+    let mut before = 0;
+    let mut i = 0;
+    while i < codes.len() {
+        let code = codes[i];
+        if !((before < code) & (code as usize <= MOST_DATUMS)) {
+            return false;
+        }
+        before = code;
+        i += 1;
+    }
+    true
+}
+
+fn listed(codes: &[u8]) -> Flags
+    requires { ⌜ rise 0 (now codes) ≡ true ⌝ }
+    ensures { λ r. ⌜ r .0 ≡ flags (now (codes .entry)) ⌝ }
+{
+    let mut flags = [false; 7];
+    let mut i = 0;
+    while i < codes.len() {
+        flags[codes[i] as usize] = true;
+        i += 1;
+    }
+    Flags(flags)
+}
+
+impl Flags {
+    fn has(self, code: u8) -> bool
+        ensures { λ r. ⌜ r ≡ getD (self .0) code false ⌝ }
+    {
+        let at = code as usize;
+        if MOST_DATUMS < at {
+            return false;
+        }
+        self.0[at]
+    }
+}
+
+// Whether every point's code is listed.
+fn all_listed(body: &[u8], points: usize, listed: Flags) -> bool
+    requires { ⌜ points * 9 ≤ length (now body) ⌝ }
+    ensures { λ r. ⌜ r ≡ allFlagged (listed .0) points (now (body .entry)) ⌝ }
+{
+    let mut i = 0;
+    while i < points {
+        if !listed.has(body[i * POINT]) {
+            return false;
+        }
+        i += 1;
+    }
+    true
+}
+
+// The record of a point in a result: the number of its refusal, or 0, and three values.
+fn in_record(refusal: u8, first: i32, second: i32, third: i32) -> [u8; 13]
+    ensures { λ r. ⌜ r ≡ recordOf refusal first second third ⌝ }
+{
+    let a = number::in_four_signed(first);
+    let b = number::in_four_signed(second);
+    let c = number::in_four_signed(third);
+    [
+        refusal,
+        a[0],
+        a[1],
+        a[2],
+        a[3],
+        b[0],
+        b[1],
+        b[2],
+        b[3],
+        c[0],
+        c[1],
+        c[2],
+        c[3],
+    ]
+}
+
+// The record of the point that 9 bytes of a sheet say.
+fn worked(point: &[u8]) -> [u8; 13]
+    requires { ⌜ length (now point) ≡ 9 ⌝ }
+    ensures { λ r. ⌜ r ≡ worked (now (point .entry)) ⌝ }
+{
+    let latitude = number::signed(number::four(point, 1));
+    let longitude = number::four(point, 5) as i64;
+    match datum::answer(point[0] as i64, latitude, longitude) {
+        PointAnswer::Shift(shifts) => in_record(
+            0,
+            shifts.latitude.units(),
+            shifts.longitude.units(),
+            shifts.height.mm(),
+        ),
+        PointAnswer::Geoid(height) => in_record(0, height.mm(), 0, 0),
+        PointAnswer::Refused(why) => in_record(why.number(), 0, 0, 0),
+    }
+}
+
+// The records of all points, at the start of out.
+fn records(body: &[u8], points: usize, out: &mut [u8])
+    requires { ⌜ points * 9 ≤ length (now body) ⌝ }
+    requires { ⌜ points * 13 ≤ length (now out) ⌝ }
+    ensures { λ _. ⌜ now (out .exit) ≡ records points (now (body .entry)) ++ drop (points * 13) (now (out .entry)) ⌝ }
+{
+    let mut i = 0;
+    while i < points {
+        let from = i * POINT;
+        let record = worked(&body[from..from + POINT]);
+        let to = i * RECORD;
+        bytes::copy(&record, &mut out[to..]);
+        i += 1;
+    }
+}
+
+// The points of a sheet that passed the tests of `read`: whether their codes are listed, the room, and the result.
+fn finished(layout: Layout, sheet: &[u8], result: &mut [u8]) -> WrittenAnswer
+    requires { ⌜ laidOut (now sheet) ≡ gives layout ⌝ }
+    ensures { λ r. ⌜ written r ≡ counted (finished (now (sheet .entry)) (length (now (result .entry)))) ⌝ }
+    ensures { λ r. ⌜ now (result .exit) ≡ lent (finished (now (sheet .entry)) (length (now (result .entry)))) (now (result .entry)) ⌝ }
+{
+    let points = layout.points;
+    let counted = CODES + layout.datums;
+    let listed = listed(&sheet[CODES..counted]);
+    let body = &sheet[counted + COUNT..];
+    if !all_listed(body, points, listed) {
+        return WrittenAnswer::Refused(Refusal::Sheet);
+    }
+    let bytes = HEAD + points * RECORD;
+    if result.len() < bytes {
+        return WrittenAnswer::Refused(Refusal::Room);
+    }
+    let serial = number::in_four(number::four(sheet, 0));
+    let head = [
+        serial[0],
+        serial[1],
+        serial[2],
+        serial[3],
+        (points / 256) as u8,
+        (points % 256) as u8,
+    ];
+    bytes::copy(&head, result);
+    records(body, points, &mut result[HEAD..]);
+    WrittenAnswer::Gives(bytes)
+}
