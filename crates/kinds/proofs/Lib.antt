@@ -3,6 +3,8 @@
 pub mod Answers
 -- a raw number that was tested by `within`
 pub mod Tested
+-- a part of a list of bytes, byte by byte
+pub mod Bytes
 -- a local position converted by its shift
 pub mod Conversion
 -- what document 01 asks of refusals, lent buffers and kinds

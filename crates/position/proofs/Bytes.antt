@@ -9,10 +9,8 @@ use native.Mathlib.Omega.{arith}
 use lib.ListN.{length, getD, take, drop}
 use lib.Seq.{drop-cons, take-all, length-take-le}
 use Rattle.kinds.specs.Bytes.{part}
+use Rattle.kinds.proofs.Bytes.{at, part-next, part-two}
 use Rattle.position.specs.Text.{latitude, longitude, isDigit, digitOf, allDigits, number, isAngle, inSixties, angle}
-
-abbrev at : List ℕ → ℕ → ℕ
-at t i = getD t i 0
 
 -- ---- a list, byte by byte
 -- f 0, f 1 and so on
@@ -30,16 +28,7 @@ spelt (suc n) (b ∷ t) h = ap (λ (l : List ℕ). b ∷ l) (spelt n t (omega ar
 pub by-bytes : (n : ℕ) (P : List ℕ → Type 0) → ((f : ℕ → ℕ) → P (spell n f)) → (t : List ℕ) → length t ≡ n → P t
 by-bytes n P p t h = subst P (sym (spelt n t h)) (p (at t))
 
--- ---- a part, a byte at a time
-part-next : (from n : ℕ) (t : List ℕ) → from < length t → part from (suc n) t ≡ at t from ∷ part (suc from) n t
-part-next from n t h = ap (take (suc n)) (drop-cons t from 0 h)
-
-part-two : (from : ℕ) (t : List ℕ) → from + 2 ≤ length t → part from 2 t ≡ at t from ∷ at t (from + 1) ∷ []
-part-two from t h =
-    part-next from 1 t (omega arith)
-    ∙ ap (λ (l : List ℕ). at t from ∷ l) (part-next (suc from) 0 t (omega arith) ∙ ap (λ (i : ℕ). at t i ∷ []) (sym (add-one from)))
-
--- two digits, as the code reads them
+-- ---- two digits, as the code reads them
 pub two-digits : (from : ℕ) (t : List ℕ) → from + 2 ≤ length t → allDigits (part from 2 t) ≡ (isDigit (at t from) && isDigit (at t (from + 1)))
 unfolding allDigits
 two-digits from t h = ap allDigits (part-two from t h) ∙ simp and-true

@@ -1,7 +1,8 @@
 -- What the private functions of this crate promise one another.
-use mathlib.Core.Bool.{Bool, false}
+use mathlib.Core.Bool.{Bool, false, _&&_}
 use mathlib.Core.List.{List, [], _∷_, map, flatMap}
-use Prim.Native.Nat.{ℕ}
+use Prim.Native.Nat.{ℕ, zero, suc}
+use lib.Dec.{leb}
 use lib.IntN.{ℤ}
 use lib.ListN.{getD}
 use Rattle.kinds.specs.Answer.{Answer, gives, refused, numberOf, inOrder, placed}
@@ -25,14 +26,21 @@ laidOut bytes = inOrder (countTests bytes) (gives (record { datums = datums byte
 unfoldable pub readOf : ℤ → List ℕ → Answer Layout
 readOf unit bytes = inOrder (serialTests unit bytes) (laidOut bytes)
 
--- by code, from 0 to 6, whether it is listed
-abbrev pub flags : List ℕ → List Bool
-flags codes =
-    isListed codes 0 ∷ isListed codes 1 ∷ isListed codes 2 ∷ isListed codes 3 ∷ isListed codes 4 ∷ isListed codes 5
-    ∷ isListed codes 6 ∷ []
+-- of n codes, from a code on, whether each is listed
+abbrev pub flagsFrom : ℕ → ℕ → List ℕ → List Bool
+flagsFrom zero code codes = []
+flagsFrom (suc n) code codes = isListed codes code ∷ flagsFrom n (suc code) codes
+
+-- and of 0 to 6
+unfoldable pub flags : List ℕ → List Bool
+flags codes = flagsFrom 7 0 codes
+
+-- a code's flag, whatever the byte
+unfoldable pub flagOf : List Bool → ℕ → Bool
+flagOf flags code = leb code 6 && getD flags code false
 
 unfoldable pub allFlagged : List Bool → ℕ → List ℕ → Bool
-allFlagged flags n body = every (λ p. getD flags (p .code) false) (map point (pieces n pointLength body))
+allFlagged flags n body = every (λ p. flagOf flags (p .code)) (map point (pieces n pointLength body))
 
 -- ---- working
 -- three values beside a refusal number or 0

@@ -6,15 +6,16 @@ use datum::PointAnswer;
 use kinds::Refusal;
 use kinds::WrittenAnswer;
 ghost use mathlib.Core.Path.{_≡_};
-ghost use mathlib.Core.Bool.{true, false};
+ghost use mathlib.Core.Bool.{true};
 ghost use mathlib.Core.List.{_++_};
-ghost use Prim.Native.Nat.{_*_, _≤_};
-ghost use lib.ListN.{length, getD, drop};
+ghost use Prim.Native.Nat.{_+_, _*_, _≤_};
+ghost use lib.ListN.{length, drop};
 ghost use Rattle.kinds.specs.Answer.{gives, counted, lent};
 ghost use Rattle.kinds.specs.Cases.{written};
+ghost use Rattle.sheet.specs.Numbers.{inBytes};
 ghost use Rattle.sheet.specs.Sheet.{rise};
 ghost use Rattle.sheet.specs.Result.{workOf};
-ghost use Rattle.sheet.specs.Inside.{layoutAnswer, readOf, laidOut, flags, allFlagged, recordOf, worked, records, finished};
+ghost use Rattle.sheet.specs.Inside.{layoutAnswer, readOf, laidOut, flags, flagOf, allFlagged, recordOf, worked, records, finished};
 
 // Works the sheet of a unit: writes the result to the start of a lent buffer and says how many bytes, 6 and 13 for each point.
 // Refused, in the order of the sheet's bytes: 1 where it is cut or bytes follow, 9 where its serial is zero, a count is over
@@ -44,6 +45,8 @@ enum LayoutAnswer {
 
 // The listed codes: by code, from 0, whether it is listed.
 struct Flags([bool; 7]);
+
+const LAST_CODE: u8 = 6;
 
 // the most that a sheet may have
 const MOST_DATUMS: usize = 6;
@@ -87,7 +90,7 @@ fn laid_out(sheet: &[u8]) -> LayoutAnswer
     if sheet.len() < CODES {
         return LayoutAnswer::Refused(Refusal::Length);
     }
-    let datums = sheet[DATUMS] as usize;
+    let datums = number::one(sheet, DATUMS) as usize;
     if MOST_DATUMS < datums {
         return LayoutAnswer::Refused(Refusal::Sheet);
     }
@@ -120,7 +123,7 @@ fn rise(codes: &[u8]) -> bool
     let mut i = 0;
     while i < codes.len() {
         let code = codes[i];
-        if !((before < code) & (code as usize <= MOST_DATUMS)) {
+        if !((before < code) & (code <= LAST_CODE)) {
             return false;
         }
         before = code;
@@ -144,13 +147,12 @@ fn listed(codes: &[u8]) -> Flags
 
 impl Flags {
     fn has(self, code: u8) -> bool
-        ensures { λ r. ⌜ r ≡ getD (self .0) code false ⌝ }
+        ensures { λ r. ⌜ r ≡ flagOf (self .0) code ⌝ }
     {
-        let at = code as usize;
-        if MOST_DATUMS < at {
+        if LAST_CODE < code {
             return false;
         }
-        self.0[at]
+        self.0[code as usize]
     }
 }
 
@@ -200,7 +202,7 @@ fn worked(point: &[u8]) -> [u8; 13]
 {
     let latitude = number::signed(number::four(point, 1));
     let longitude = number::four(point, 5) as i64;
-    match datum::answer(point[0] as i64, latitude, longitude) {
+    match datum::answer(number::one(point, 0) as i64, latitude, longitude) {
         PointAnswer::Shift(shifts) => in_record(
             0,
             shifts.latitude.units(),
@@ -228,7 +230,27 @@ fn records(body: &[u8], points: usize, out: &mut [u8])
     }
 }
 
-// The points of a sheet that passed the tests of `read`: whether their codes are listed, the room, and the result.
+// The serial, the count and the records, at the start of a result that has room for them.
+fn put(serial: u32, body: &[u8], points: usize, result: &mut [u8])
+    requires { ⌜ points ≤ 500 ⌝ }
+    requires { ⌜ points * 9 ≤ length (now body) ⌝ }
+    requires { ⌜ 6 + points * 13 ≤ length (now result) ⌝ }
+    ensures { λ _. ⌜ now (result .exit) ≡ inBytes 4 serial ++ inBytes 2 points ++ records points (now (body .entry)) ++ drop (6 + points * 13) (now (result .entry)) ⌝ }
+{
+    let s = number::in_four(serial);
+    let head = [
+        s[0],
+        s[1],
+        s[2],
+        s[3],
+        (points / 256) as u8,
+        (points % 256) as u8,
+    ];
+    bytes::copy(&head, result);
+    records(body, points, &mut result[HEAD..]);
+}
+
+// The rest of the work on a sheet that passed the tests of `read`.
 fn finished(layout: Layout, sheet: &[u8], result: &mut [u8]) -> WrittenAnswer
     requires { ⌜ laidOut (now sheet) ≡ gives layout ⌝ }
     ensures { λ r. ⌜ written r ≡ counted (finished (now (sheet .entry)) (length (now (result .entry)))) ⌝ }
@@ -245,16 +267,6 @@ fn finished(layout: Layout, sheet: &[u8], result: &mut [u8]) -> WrittenAnswer
     if result.len() < bytes {
         return WrittenAnswer::Refused(Refusal::Room);
     }
-    let serial = number::in_four(number::four(sheet, 0));
-    let head = [
-        serial[0],
-        serial[1],
-        serial[2],
-        serial[3],
-        (points / 256) as u8,
-        (points % 256) as u8,
-    ];
-    bytes::copy(&head, result);
-    records(body, points, &mut result[HEAD..]);
+    put(number::four(sheet, 0), body, points, result);
     WrittenAnswer::Gives(bytes)
 }

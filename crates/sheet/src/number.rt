@@ -5,6 +5,15 @@ ghost use lib.ListN.{length};
 ghost use Rattle.kinds.specs.Bytes.{part};
 ghost use Rattle.sheet.specs.Numbers.{number, inBytes, complement, signed};
 
+// The byte at a place.
+pub(crate) fn one(bytes: &[u8], at: usize) -> u32
+    requires { ⌜ at + 1 ≤ length (now bytes) ⌝ }
+    ensures { λ r. ⌜ r ≡ number (part at 1 (now (bytes .entry))) ⌝ }
+    ensures { λ r. ⌜ r < 256 ⌝ }
+{
+    wide(bytes[at])
+}
+
 // The unsigned number in the two bytes at a place.
 pub(crate) fn two(bytes: &[u8], at: usize) -> usize
     requires { ⌜ at + 2 ≤ length (now bytes) ⌝ }

@@ -1,50 +1,63 @@
+-- `sheet::all_listed` meets its contract. Assumes nothing.
+use mathlib.Core.Path.{_≡_, sym, ap, _∙_}
+use mathlib.Core.Bool.{not}
+use Prim.Native.Nat.{ℕ, _-_, _*_, _≤_}
+use native.Mathlib.Omega.{arith}
+use lib.ListN.{drop}
+use borrow.Author.Needs.{needs}
+use Rattle.sheet.specs.Inside.{allFlagged}
+use Rattle.sheet.proofs.Points.{flag-missing, flag-found, flags-end}
 use Rattle.sheet.proofs.all_listed.Statement.{statement}
 use Rattle.sheet.proofs.all_listed.Tie as tie
-use Rattle.sheet.proofs.all_listed.Reads as reads
-use Rattle.sheet.proofs.all_listed.Lts as lts
-use Rattle.sheet.proofs.Flags.has.Reads as has-reads
 
 abbrev Inv-loop : tie.InvT-loop
-Inv-loop body points listed i₀ i = ?
+Inv-loop body points listed i₀ i = (i ≤ points) × (allFlagged (listed .0) (points - i) (drop (i * 9) body) ≡ allFlagged (listed .0) points body)
 
 abbrev μ-loop : tie.MeasureT-loop
-μ-loop body points listed i₀ i = ?
+μ-loop body points listed i₀ i = points - i
 
--- src/lib.rt:163:5
 loop-holds : tie.Need-loop-holds Inv-loop μ-loop
-loop-holds c = ?
+loop-holds c =
+    let same : c .before .args .points - 0 ≡ c .before .args .points = omega arith in
+    (omega arith, ap (λ (n : ℕ). allFlagged (c .before .args .listed .0) n (c .before .args .body .now)) same)
 
--- src/lib.rt:164:29
 mul-has : tie.Need-mul-has Inv-loop μ-loop
-mul-has c = ?
+mul-has c = search needs
 
--- src/lib.rt:164:24
 shared-slice-read-has : tie.Need-shared-slice-read-has Inv-loop μ-loop
-shared-slice-read-has c = ?
+shared-slice-read-has c = search needs
 
--- src/lib.rt:164:13
 has-requires : tie.Need-has-requires Inv-loop μ-loop
-has-requires c κs = ?
+has-requires c κs = search needs
 
--- src/lib.rt:165:13
 returns : tie.Need-returns Inv-loop μ-loop
-returns c = ?
+returns c =
+    let loop = c .before .before .before .before .loop in
+    let s = c .before .before .before .before .before .before in
+    flag-missing (s .args .listed .0) (s .args .points) (loop .i) (s .args .body .now) (c .before .before .before .loop-test .taken) (s .pre) (ap not (sym (c .before .has .ensures)) ∙ c .if1 .taken)
+    ∙ loop .inv .1
 
--- src/lib.rt:167:9
 add-i : tie.Need-add-i Inv-loop μ-loop
-add-i c = ?
+add-i c = search needs
 
--- src/lib.rt:163:5
 loop-less : tie.Need-loop-less Inv-loop μ-loop
-loop-less c = ?
+loop-less c = search needs
 
--- src/lib.rt:163:5
 loop-again : tie.Need-loop-again Inv-loop μ-loop
-loop-again c = ?
+loop-again c =
+    let loop = c .before .before .before .before .loop in
+    let s = c .before .before .before .before .before .before in
+    let test = c .before .before .before .loop-test .taken in (
+      omega (arith, test),
+      flag-found (s .args .listed .0) (s .args .points) (loop .i) (s .args .body .now) test (s .pre) (ap not (sym (c .before .has .ensures)) ∙ c .if1 .left)
+          ∙ loop .inv .1,
+    )
 
--- src/lib.rt:158:1
 returns-2 : tie.Need-returns-2 Inv-loop μ-loop
-returns-2 c = ?
+returns-2 c =
+    let loop = c .before .loop in
+    let s = c .before .before .before in
+    flags-end (s .args .listed .0) (s .args .points) (loop .i) (s .args .body .now) (c .loop-test .left) ∙ loop .inv .1
 
 pub all-listed-spec : {M : Type 1} → statement M
 all-listed-spec =

@@ -1,87 +1,89 @@
+-- `sheet::records` meets its contract. Assumes nothing.
+use mathlib.Core.Path.{_≡_, refl, ap, _∙_}
+use mathlib.Core.List.{_++_}
+use Prim.Native.Nat.{ℕ, _+_, _-_, _*_, _≤_}
+use native.Mathlib.Omega.{arith}
+use native.Mathlib.Nat.{le-antisymm}
+use lib.ListN.{length, drop}
+use borrow.Author.Needs.{needs}
+use Rattle.sheet.specs.Inside.{records}
+use Rattle.sheet.proofs.Points.{piece-lent}
+use Rattle.sheet.proofs.Results.{no-records, turn, turn-long}
 use Rattle.sheet.proofs.records.Statement.{statement}
 use Rattle.sheet.proofs.records.Tie as tie
-use Rattle.sheet.proofs.records.Reads as reads
-use Rattle.sheet.proofs.records.Lts as lts
-use Rattle.bytes.proofs.copy.Reads as copy-reads
-use Rattle.sheet.proofs.worked.Reads as worked-reads
 
 abbrev Inv-loop : tie.InvT-loop
-Inv-loop body points out₀ i₀ out i = ?
+Inv-loop body points out₀ i₀ out i = (i ≤ points) × ((out ≡ records i body ++ drop (i * 13) out₀) × (length out ≡ length out₀))
 
 abbrev μ-loop : tie.MeasureT-loop
-μ-loop body points out₀ i₀ out i = ?
+μ-loop body points out₀ i₀ out i = points - i
 
--- src/lib.rt:222:5
 loop-holds : tie.Need-loop-holds Inv-loop μ-loop
-loop-holds c = ?
+loop-holds c =
+    let none = no-records (c .before .before .args .body .now) in
+    (omega arith, (rw none refl, refl))
 
--- src/lib.rt:223:20
 mul-from : tie.Need-mul-from Inv-loop μ-loop
-mul-from c = ?
+mul-from c = search needs
 
--- src/lib.rt:224:41
 add-worked : tie.Need-add-worked Inv-loop μ-loop
-add-worked c = ?
+add-worked c = search needs
 
--- src/lib.rt:224:29
 sub-worked : tie.Need-sub-worked Inv-loop μ-loop
-sub-worked c = ?
+sub-worked c = search needs
 
--- src/lib.rt:224:29
 part-worked-start : tie.Need-part-worked-start Inv-loop μ-loop
-part-worked-start c = ?
+part-worked-start c = search needs
 
--- src/lib.rt:224:29
 part-worked-end : tie.Need-part-worked-end Inv-loop μ-loop
-part-worked-end c = ?
+part-worked-end c = search needs
 
--- src/lib.rt:224:22
 worked-requires : tie.Need-worked-requires Inv-loop μ-loop
-worked-requires c κs = ?
+worked-requires c κs =
+    let s = c .before .before .before .before .before in
+    piece-lent (s .args .points) (c .before .before .loop .i) (s .args .body .now) (c .before .loop-test .taken) (s .pre .0)
 
--- src/lib.rt:225:18
 mul-to : tie.Need-mul-to Inv-loop μ-loop
-mul-to c = ?
+mul-to c = search needs
 
--- src/lib.rt:226:21
 slice-aggregate-copy : tie.Need-slice-aggregate-copy Inv-loop μ-loop
-slice-aggregate-copy c = ?
+slice-aggregate-copy c = search needs
 
--- src/lib.rt:226:30
 sub-copy : tie.Need-sub-copy Inv-loop μ-loop
-sub-copy c = ?
+sub-copy c = search needs
 
--- src/lib.rt:226:30
 part-copy-start : tie.Need-part-copy-start Inv-loop μ-loop
-part-copy-start c = ?
+part-copy-start c = search needs
 
--- src/lib.rt:226:30
 part-copy-end : tie.Need-part-copy-end Inv-loop μ-loop
-part-copy-end c = ?
+part-copy-end c = search needs
 
--- src/lib.rt:226:9
 copy-requires : tie.Need-copy-requires Inv-loop μ-loop
-copy-requires c κs = ?
+copy-requires c κs = search needs
 
--- src/lib.rt:227:9
 add-i : tie.Need-add-i Inv-loop μ-loop
-add-i c = ?
+add-i c = search needs
 
--- src/lib.rt:222:5
 loop-less : tie.Need-loop-less Inv-loop μ-loop
-loop-less c = ?
+loop-less c = search needs
 
--- src/lib.rt:222:5
 loop-again : tie.Need-loop-again Inv-loop μ-loop
-loop-again c = ?
+loop-again c =
+    let top = c .before .before .before .before .before .before .before .before in
+    let s = c .before .before .before .before .before .before .before .before .before .before .before in
+    let i = top .loop .i in
+    let test = c .before .before .before .before .before .before .before .loop-test .taken in
+    let room : (i + 1) * 13 ≤ length (s .args .out .now) = omega (arith, test, s .pre .1) in
+    let t = turn (s .args .body .now) (s .args .out .now) i room (top .loop .out) _ _ (top .loop .inv .1 .0) (c .before .before .before .before .before .worked .ensures) (c .before .before .copy .ensures .1) in
+    (omega (arith, test), (t, ap length t ∙ turn-long (s .args .body .now) (s .args .out .now) i room))
 
--- src/lib.rt:216:1
 same-length : tie.Need-same-length Inv-loop μ-loop
-same-length c = ?
+same-length c = c .before .loop .inv .1 .1
 
--- src/lib.rt:216:1
 returns : tie.Need-returns Inv-loop μ-loop
-returns c = ?
+returns c =
+    let s = c .before .before .before .before in
+    c .before .loop .inv .1 .0 ∙ ap (λ (n : ℕ). records n (s .args .body .now) ++ drop (n * 13) (s .args .out .now)) (le-antisymm (c .before .loop .inv .0) (c .loop-test .left))
 
 pub records-spec : {M : Type 1} → statement M
 records-spec =

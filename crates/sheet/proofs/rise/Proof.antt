@@ -1,45 +1,45 @@
+-- `sheet::rise` meets its contract. Assumes nothing.
+use mathlib.Core.Path.{_≡_, refl, _∙_}
+use Prim.Native.Nat.{_-_, _≤_}
+use native.Mathlib.Omega.{arith}
+use lib.ListN.{length, drop}
+use borrow.Author.Needs.{needs}
+use Rattle.sheet.specs.Sheet.{rise}
+use Rattle.sheet.proofs.Codes.{rise-stops, rise-goes, rise-ends}
 use Rattle.sheet.proofs.rise.Statement.{statement}
 use Rattle.sheet.proofs.rise.Tie as tie
-use Rattle.sheet.proofs.rise.Reads as reads
-use Rattle.sheet.proofs.rise.Lts as lts
 
 abbrev Inv-loop : tie.InvT-loop
-Inv-loop codes before₀ i₀ before i = ?
+Inv-loop codes before₀ i₀ before i = (i ≤ length codes) × (rise before (drop i codes) ≡ rise 0 codes)
 
 abbrev μ-loop : tie.MeasureT-loop
-μ-loop codes before₀ i₀ before i = ?
+μ-loop codes before₀ i₀ before i = length codes - i
 
--- src/lib.rt:121:5
 loop-holds : tie.Need-loop-holds Inv-loop μ-loop
-loop-holds c = ?
+loop-holds c = (omega arith, refl)
 
--- src/lib.rt:122:20
 shared-slice-read-code : tie.Need-shared-slice-read-code Inv-loop μ-loop
-shared-slice-read-code c = ?
+shared-slice-read-code c = search needs
 
--- src/lib.rt:123:33
-cast-if1 : tie.Need-cast-if1 Inv-loop μ-loop
-cast-if1 c = ?
-
--- src/lib.rt:124:13
 returns : tie.Need-returns Inv-loop μ-loop
-returns c = ?
+returns c =
+    let loop = c .before .before .before .loop in
+    rise-stops (loop .before) (loop .i) _ (c .before .before .loop-test .taken) (c .if1 .taken) ∙ loop .inv .1
 
--- src/lib.rt:127:9
 add-i : tie.Need-add-i Inv-loop μ-loop
-add-i c = ?
+add-i c = search needs
 
--- src/lib.rt:121:5
 loop-less : tie.Need-loop-less Inv-loop μ-loop
-loop-less c = ?
+loop-less c = search needs
 
--- src/lib.rt:121:5
 loop-again : tie.Need-loop-again Inv-loop μ-loop
-loop-again c = ?
+loop-again c =
+    let loop = c .before .before .before .loop in
+    let test = c .before .before .loop-test .taken in
+    (omega (arith, test), rise-goes (loop .before) (loop .i) _ test (c .if1 .left) ∙ loop .inv .1)
 
--- src/lib.rt:116:1
 returns-2 : tie.Need-returns-2 Inv-loop μ-loop
-returns-2 c = ?
+returns-2 c = rise-ends (c .before .loop .before) (c .before .loop .i) _ (c .loop-test .left) ∙ c .before .loop .inv .1
 
 pub rise-spec : {M : Type 1} → statement M
 rise-spec =
@@ -49,7 +49,6 @@ rise-spec =
     μ-loop
     loop-holds
     shared-slice-read-code
-    cast-if1
     returns
     add-i
     loop-less

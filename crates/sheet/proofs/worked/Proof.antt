@@ -1,99 +1,93 @@
+-- `sheet::worked` meets its contract. Assumes nothing.
+use mathlib.Core.Path.{_≡_, ap, _∙_}
+use Prim.Native.Nat.{ℕ, _<_, _^_}
+use native.Mathlib.Omega.{arith}
+use lib.IntN.{ℤ, pos}
+use lib.Signed.{mag}
 use borrow.Author.Needs.{needs}
+use mir.Syntax.{w32}
+use mir.Val.{hbits, toZ, ofZ}
+use Rattle.whole.proofs.Words.{of, small}
+use Rattle.sheet.specs.Numbers.{signed}
+use Rattle.sheet.specs.Inside.{recordOf}
+use Rattle.sheet.proofs.Points.{shift-record, geoid-record, refused-record, worked-is}
 use Rattle.sheet.proofs.worked.Statement.{statement}
 use Rattle.sheet.proofs.worked.Tie as tie
-use Rattle.sheet.proofs.worked.Reads as reads
-use Rattle.sheet.proofs.worked.Lts as lts
-use Rattle.datum.proofs.answer.Reads as answer-reads
-use Rattle.kinds.proofs.AngleShift.units.Reads as units-reads
-use Rattle.kinds.proofs.Height.mm.Reads as mm-reads
-use Rattle.kinds.proofs.Refusal.number.Reads as number-reads
-use Rattle.sheet.proofs.in_record.Reads as in-record-reads
-use Rattle.sheet.proofs.number.four.Reads as four-reads
-use Rattle.sheet.proofs.number.signed.Reads as signed-reads
 
--- src/lib.rt:201:35
+-- a result of 4 bytes, by the field that it is
+field : {n m : ℤ} → mag n < 2 ^ hbits w32 → n ≡ m → toZ w32 (ofZ w32 n) ≡ m
+field h e = of (record { sfits = h }) .reads ∙ e
+
 four-requires : tie.Need-four-requires
 four-requires c κs = search needs
 
--- src/lib.rt:201:9
 signed-requires : tie.Need-signed-requires
 signed-requires c κs = search needs
 
--- src/lib.rt:202:21
 four-requires-2 : tie.Need-four-requires-2
 four-requires-2 c κs = search needs
 
--- src/lib.rt:202:21
 cast-longitude : tie.Need-cast-longitude
 cast-longitude c = search needs
 
--- src/lib.rt:203:25
-shared-slice-read-answer : tie.Need-shared-slice-read-answer
-shared-slice-read-answer c = search needs
+one-requires : tie.Need-one-requires
+one-requires c κs = search needs
 
--- src/lib.rt:203:25
 cast-answer : tie.Need-cast-answer
-cast-answer c = ?
+cast-answer c = small (pos (c .one .result)) (omega (arith, c .one .ensures .1))
 
--- src/lib.rt:203:11
 answer-requires : tie.Need-answer-requires
 answer-requires c κs = search needs
 
--- src/lib.rt:204:28
 enum-known-shifts : tie.Need-enum-known-shifts
 enum-known-shifts c = search needs
 
--- src/lib.rt:206:13
 units-requires : tie.Need-units-requires
 units-requires c κs = search needs
 
--- src/lib.rt:207:13
 units-requires-2 : tie.Need-units-requires-2
 units-requires-2 c κs = search needs
 
--- src/lib.rt:208:13
 mm-requires : tie.Need-mm-requires
 mm-requires c κs = search needs
 
--- src/lib.rt:204:39
 in-record-requires : tie.Need-in-record-requires
 in-record-requires c κs = search needs
 
--- src/lib.rt:210:28
 enum-known-height : tie.Need-enum-known-height
 enum-known-height c = search needs
 
--- src/lib.rt:210:52
 mm-requires-2 : tie.Need-mm-requires-2
 mm-requires-2 c κs = search needs
 
--- src/lib.rt:210:39
 in-record-requires-2 : tie.Need-in-record-requires-2
 in-record-requires-2 c κs = search needs
 
--- src/lib.rt:211:30
 enum-known-why : tie.Need-enum-known-why
 enum-known-why c = search needs
 
--- src/lib.rt:211:48
 number-requires : tie.Need-number-requires
 number-requires c κs = search needs
 
--- src/lib.rt:211:38
 in-record-requires-3 : tie.Need-in-record-requires-3
 in-record-requires-3 c κs = search needs
 
--- src/lib.rt:197:1
 returns : tie.Need-returns
-returns c = ?
+returns c =
+    c .in-record .ensures
+    ∙ (λ i. recordOf 0 (field (c .before .before .before .units .ok) (c .before .before .before .units .ensures) i) (field (c .before .before .units2 .ok) (c .before .before .units2 .ensures) i) (field (c .before .mm .ok) (c .before .mm .ensures) i))
+    ∙ shift-record _
+    ∙ worked-is _ (c .before .before .before .before .before .before .before .before .one .ensures .0) (c .before .before .before .before .before .before .before .before .one .ensures .1) (c .before .before .before .before .before .before .before .before .before .before .signed .ensures ∙ ap signed (c .before .before .before .before .before .before .before .before .before .before .before .four .ensures)) (record { sfits = c .before .before .before .before .before .before .before .before .before .before .signed .ok }) (c .before .before .before .before .before .before .before .before .before .four2 .ensures) (c .before .before .before .before .before .before .before .before .before .four2 .ok) (c .before .before .before .before .before .before .before .answer .ensures) (c .before .before .before .before .before .shifts .given .1)
 
--- src/lib.rt:197:1
 returns-2 : tie.Need-returns-2
-returns-2 c = ?
+returns-2 c =
+    c .in-record2 .ensures ∙ ap (λ (x : ℤ). recordOf 0 x (pos 0) (pos 0)) (field (c .before .mm2 .ok) (c .before .mm2 .ensures)) ∙ geoid-record _
+    ∙ worked-is _ (c .before .before .before .before .before .before .one .ensures .0) (c .before .before .before .before .before .before .one .ensures .1) (c .before .before .before .before .before .before .before .before .signed .ensures ∙ ap signed (c .before .before .before .before .before .before .before .before .before .four .ensures)) (record { sfits = c .before .before .before .before .before .before .before .before .signed .ok }) (c .before .before .before .before .before .before .before .four2 .ensures) (c .before .before .before .before .before .before .before .four2 .ok) (c .before .before .before .before .before .answer .ensures) (c .before .before .before .height .given .1)
 
--- src/lib.rt:197:1
 returns-3 : tie.Need-returns-3
-returns-3 c = ?
+returns-3 c =
+    c .in-record3 .ensures ∙ ap (λ (n : ℕ). recordOf n (pos 0) (pos 0) (pos 0)) (c .before .number .ensures) ∙ refused-record (c .before .before .before .why .given .0 .0)
+    ∙ worked-is _ (c .before .before .before .before .before .before .one .ensures .0) (c .before .before .before .before .before .before .one .ensures .1) (c .before .before .before .before .before .before .before .before .signed .ensures ∙ ap signed (c .before .before .before .before .before .before .before .before .before .four .ensures)) (record { sfits = c .before .before .before .before .before .before .before .before .signed .ok }) (c .before .before .before .before .before .before .before .four2 .ensures) (c .before .before .before .before .before .before .before .four2 .ok) (c .before .before .before .before .before .answer .ensures) (c .before .before .before .why .given .1)
 
 pub worked-spec : {M : Type 1} → statement M
 worked-spec =
@@ -103,7 +97,7 @@ worked-spec =
     signed-requires
     four-requires-2
     cast-longitude
-    shared-slice-read-answer
+    one-requires
     cast-answer
     answer-requires
     enum-known-shifts

@@ -1,41 +1,39 @@
+-- `sheet::number::in_four_signed` meets its contract. Assumes nothing.
 use borrow.Author.Needs.{needs}
+use mathlib.Core.Path.{ap, _∙_}
+use Rattle.whole.proofs.Words.{widened-asks}
+use Rattle.sheet.specs.Numbers.{inBytes}
+use Rattle.sheet.proofs.Numbers.{raised-asks, raised-cast, raised-is, same-cast, same-is}
 use Rattle.sheet.proofs.number.in_four_signed.Statement.{statement}
 use Rattle.sheet.proofs.number.in_four_signed.Tie as tie
-use Rattle.sheet.proofs.number.in_four_signed.Reads as reads
-use Rattle.sheet.proofs.number.in_four_signed.Lts as lts
-use Rattle.sheet.proofs.number.in_four.Reads as in-four-reads
 
--- src/number.rt:62:25
 cast-in-four : tie.Need-cast-in-four
-cast-in-four c = ?
+cast-in-four c = widened-asks (c .before .fits .n)
 
--- src/number.rt:62:25
 add-in-four : tie.Need-add-in-four
-add-in-four c = ?
+add-in-four c = raised-asks _ (c .before .fits .n) (c .if1 .taken)
 
--- src/number.rt:62:24
 cast-in-four-2 : tie.Need-cast-in-four-2
-cast-in-four-2 c = ?
+cast-in-four-2 c = raised-cast _ (c .before .fits .n) (c .if1 .taken)
 
--- src/number.rt:62:9
 in-four-requires : tie.Need-in-four-requires
 in-four-requires c κs = search needs
 
--- src/number.rt:62:9
 returns : tie.Need-returns
-returns c = ?
+returns c =
+    let s = c .before .before in
+    c .in-four .ensures ∙ ap (inBytes 4) (raised-is _ (s .fits .n) (c .before .if1 .taken))
 
--- src/number.rt:64:13
 cast-in-four-3 : tie.Need-cast-in-four-3
-cast-in-four-3 c = ?
+cast-in-four-3 c = same-cast _ (c .before .fits .n) (c .if1 .left)
 
--- src/number.rt:64:5
 in-four-requires-2 : tie.Need-in-four-requires-2
 in-four-requires-2 c κs = search needs
 
--- src/number.rt:58:1
 returns-2 : tie.Need-returns-2
-returns-2 c = ?
+returns-2 c =
+    let s = c .before .before in
+    c .in-four2 .ensures ∙ ap (inBytes 4) (same-is _ (s .fits .n) (c .before .if1 .left))
 
 pub in-four-signed-spec : {M : Type 1} → statement M
 in-four-signed-spec =

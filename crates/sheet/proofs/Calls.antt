@@ -1,0 +1,126 @@
+-- The work on a sheet that was laid out, and on any: what each return answers, and what it leaves in the lent buffer. Assumes
+-- nothing.
+use mathlib.Core.Path.{_≡_, refl, sym, ap, _∙_, subst}
+use mathlib.Core.Bool.{Bool, true, false, not, _&&_}
+use mathlib.Core.List.{List, [], _∷_, _++_, map, flatMap}
+use Prim.Native.Nat.{ℕ, zero, suc, _+_, _-_, _*_, _<_, _≤_}
+use native.Mathlib.Omega.{arith}
+use lib.ListN.{length, take, drop, length-append, length-drop, length-map}
+use lib.Seq.{take-all}
+use borrow.Author.Tests.{le-leb, lt-leb, not-true, not-false}
+use mir.Syntax.{w64}
+use mir.Val.{Fits}
+use Rattle.kinds.specs.Answer.{Answer, gives, refused, placed, counted, lent}
+use Rattle.datum.specs.Tables.{every}
+use Rattle.sheet.specs.Numbers.{inBytes}
+use Rattle.sheet.specs.Sheet.{Point, serial, datums, codes, count, body, point, points, pieces, rise, isListed, said}
+use Rattle.sheet.specs.Result.{inRecord, answerAt, resultOf}
+use Rattle.sheet.specs.Inside.{flags, flagOf, allFlagged, worked, records, finished}
+use Rattle.sheet.specs.declared.Layout.{Layout}
+use Rattle.sheet.proofs.Codes.{flagged}
+use Rattle.sheet.proofs.Reading.{Laid, codes-are}
+use Rattle.sheet.proofs.Results.{records-long}
+
+-- ---- points and their records
+every-same : {A : Type 0} (f g : A → Bool) → ((x : A) → f x ≡ g x) → (xs : List A) → every f xs ≡ every g xs
+every-same f g h [] = refl
+every-same f g h (x ∷ xs) = λ i. h x i && every-same f g h xs i
+
+pieces-counted : (n width : ℕ) (bytes : List ℕ) → length (pieces n width bytes) ≡ n
+unfolding pieces
+pieces-counted zero width bytes = refl
+pieces-counted (suc n) width bytes = ap suc (pieces-counted n width (drop width bytes))
+
+pub points-counted : (t : List ℕ) → length (points t) ≡ count t
+unfolding points
+points-counted t = length-map (pieces (count t) 9 (body t)) point ∙ pieces-counted (count t) 9 (body t)
+
+of-points : (ps : List (List ℕ)) → flatMap worked ps ≡ flatMap (λ p. inRecord (answerAt p)) (map point ps)
+unfolding flatMap worked
+of-points [] = refl
+of-points (p ∷ ps) = ap (λ (l : List ℕ). inRecord (answerAt (point p)) ++ l) (of-points ps)
+
+-- a result, by the records of the sheet's body
+pub result-is : (t : List ℕ) → inBytes 4 (serial t) ++ inBytes 2 (count t) ++ records (count t) (body t) ≡ resultOf (said t)
+unfolding resultOf records points
+result-is t = λ i. inBytes 4 (serial t) ++ inBytes 2 (sym (points-counted t) i) ++ of-points (pieces (count t) 9 (body t)) i
+
+pub result-long : (t : List ℕ) → length (resultOf (said t)) ≡ 6 + count t * 13
+unfolding inBytes
+result-long t = ap length (sym (result-is t)) ∙ omega (arith, length-append (inBytes 4 (serial t) ++ inBytes 2 (count t)) (records (count t) (body t)), records-long (count t) (body t))
+
+-- ---- a sheet that was laid out
+module _ (t : List ℕ) {layout : Layout} (l : Laid t layout) where
+  abbrev d : ℕ
+  d = layout .datums
+
+  abbrev n : ℕ
+  n = layout .points
+
+  -- what the code has room for and lends
+  pub codes-end : 5 + d ≤ length t
+  codes-end = omega (arith, l .long, l .is-datums)
+
+  pub body-start : 5 + d + 2 ≤ length t
+  body-start = omega (arith, l .long, l .is-datums)
+
+  pub five-more : Fits w64 (5 + d)
+  five-more = record { fits = omega (arith, l .few, l .is-datums) }
+
+  pub seven-more : Fits w64 (5 + d + 2)
+  seven-more = record { fits = omega (arith, l .few, l .is-datums) }
+
+  pub records-fit : Fits w64 (n * 13)
+  records-fit = record { fits = omega (arith, l .most, l .is-points) }
+
+  pub result-fits : Fits w64 (6 + n * 13)
+  result-fits = record { fits = omega (arith, l .most, l .is-points) }
+
+  pub at-most : n ≤ 500
+  at-most = omega (arith, l .most, l .is-points)
+
+  pub serial-there : 4 ≤ length t
+  serial-there = omega (arith, l .long)
+
+  five : 5 ≤ length t
+  five = omega (arith, l .long)
+
+  pub codes-lent : rise 0 (take (5 + d - 5) (drop 5 t)) ≡ true
+  codes-lent = ap (rise 0) (codes-are t five (l .is-datums)) ∙ l .right
+
+  body-is : take (length t - (5 + d + 2)) (drop (5 + d + 2) t) ≡ body t
+  unfolding body
+  body-is =
+      let e : 5 + d + 2 ≡ 7 + datums t = omega (arith, l .is-datums) in
+      take-all (length t - (5 + d + 2)) (drop (5 + d + 2) t) (omega (arith, length-drop (5 + d + 2) t)) ∙ ap (λ (k : ℕ). drop k t) e
+
+  pub body-lent : n * 9 ≤ length (take (length t - (5 + d + 2)) (drop (5 + d + 2) t))
+  unfolding body
+  body-lent = subst (λ (b : List ℕ). n * 9 ≤ length b) (sym body-is) (omega (arith, l .long, l .is-points, length-drop (7 + datums t) t))
+
+  -- f is what `listed` answers, b what `all_listed` does, and out the lent buffer
+  module _ {f : List Bool} (is-f : f ≡ flags (take (5 + d - 5) (drop 5 t))) {b : Bool} (is-b : b ≡ allFlagged f n (take (length t - (5 + d + 2)) (drop (5 + d + 2) t))) (out : List ℕ) where
+    all-is : b ≡ every (λ p. isListed (codes t) (p .code)) (points t)
+    unfolding allFlagged points
+    all-is =
+        is-b ∙ (λ i. allFlagged ((is-f ∙ ap flags (codes-are t five (l .is-datums))) i) (l .is-points i) (body-is i))
+        ∙ every-same (λ p. flagOf (flags (codes t)) (p .code)) (λ p. isListed (codes t) (p .code)) (λ p. flagged (codes t) (l .right) (p .code)) (map point (pieces (count t) 9 (body t)))
+
+    pub unlisted : not b ≡ true → (refused 9 ≡ counted (finished t (length out))) × (out ≡ lent (finished t (length out)) out)
+    unfolding finished
+    unlisted h = simp (← all-is, not-true b h) (refl, refl)
+
+    module _ (all : not b ≡ false) where
+      pub no-room : length out < 6 + n * 13 → (refused 7 ≡ counted (finished t (length out))) × (out ≡ lent (finished t (length out)) out)
+      unfolding finished
+      no-room h = simp (← all-is, not-false b all, lt-leb (length (resultOf (said t))) (length out) (omega (arith, h, result-long t, l .is-points))) (refl, refl)
+
+      -- s is the serial that the code reads, and new the buffer afterwards
+      pub all-written : {s : ℕ} {new : List ℕ} → 6 + n * 13 ≤ length out → s ≡ serial t
+          → new ≡ inBytes 4 s ++ inBytes 2 n ++ records n (take (length t - (5 + d + 2)) (drop (5 + d + 2) t)) ++ drop (6 + n * 13) out
+          → (gives (6 + n * 13) ≡ counted (finished t (length out))) × (new ≡ lent (finished t (length out)) out)
+      unfolding finished
+      all-written {s} {new} room is-s is-new =
+          let long : 6 + n * 13 ≡ length (resultOf (said t)) = omega (arith, result-long t, l .is-points) in
+          let bytes : inBytes 4 s ++ inBytes 2 n ++ records n (take (length t - (5 + d + 2)) (drop (5 + d + 2) t)) ≡ resultOf (said t) = (λ i. inBytes 4 (is-s i) ++ inBytes 2 (l .is-points i) ++ records (l .is-points i) (body-is i)) ∙ result-is t in
+          simp (← all-is, not-false b all, le-leb (length (resultOf (said t))) (length out) (omega (arith, room, long))) (ap gives long, is-new ∙ (λ i. bytes i ++ drop (long i) out))

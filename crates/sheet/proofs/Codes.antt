@@ -1,0 +1,125 @@
+-- The codes that a sheet lists: whether they rise, their flags, and whether a point's code is flagged. Assumes nothing.
+use mathlib.Core.Path.{_≡_, refl, sym, ap, _∙_, subst}
+use mathlib.Core.Bool.{Bool, true, false, not, _&&_, _||_, or-true, or-false, or-assoc}
+use mathlib.Core.List.{List, [], _∷_, _++_, map}
+use mathlib.Core.Logic.{_≢_}
+use Prim.Native.Nat.{ℕ, zero, suc, _+_, _-_, _*_, _<_, _≤_}
+use native.Mathlib.Numerals.{add-one}
+use native.Mathlib.Omega.{arith}
+use lib.Dec.{T, eqb, leb, ltb}
+use lib.ListN.{length, getD, set, take, drop, length-set, drop-of-length-le}
+use lib.Seq.{drop-cons, take-suc, take-all, ext-getD, getD-set-same, getD-set-other}
+use borrow.Author.Tests.{ne-eqb, eqb-true, eqb-false, leb-true, leb-false, le-leb, lt-leb, not-true, not-false}
+use Rattle.whole.proofs.Bools.{both}
+use Rattle.kinds.proofs.Bytes.{at}
+use Rattle.sheet.specs.Sheet.{rise, isListed}
+use Rattle.sheet.specs.Inside.{flagsFrom, flags, flagOf}
+
+-- ---- whether they rise, a code at a time
+module _ (before i : ℕ) (codes : List ℕ) where
+  abbrev next : Bool
+  next = ltb before (at codes i) && leb (at codes i) 6
+
+  rise-next : i < length codes → rise before (drop i codes) ≡ (next && rise (at codes i) (drop (i + 1) codes))
+  unfolding rise
+  rise-next h = ap (rise before) (drop-cons codes i 0 h) ∙ ap (λ (k : ℕ). next && rise (at codes i) (drop k codes)) (sym (add-one i))
+
+  pub rise-stops : i < length codes → not next ≡ true → false ≡ rise before (drop i codes)
+  rise-stops h t = sym (rise-next h ∙ ap (λ (b : Bool). b && rise (at codes i) (drop (i + 1) codes)) (not-true next t))
+
+  pub rise-goes : i < length codes → not next ≡ false → rise (at codes i) (drop (i + 1) codes) ≡ rise before (drop i codes)
+  rise-goes h t = sym (rise-next h ∙ ap (λ (b : Bool). b && rise (at codes i) (drop (i + 1) codes)) (not-false next t))
+
+  pub rise-ends : length codes ≤ i → true ≡ rise before (drop i codes)
+  unfolding rise
+  rise-ends h = sym (ap (rise before) (drop-of-length-le codes h))
+
+-- what rises is 1 to 6
+pub six : (before : ℕ) (codes : List ℕ) → rise before codes ≡ true → (i : ℕ) → i < length codes → at codes i ≤ 6
+unfolding rise
+six before [] h i k = absurd (omega arith)
+six before (code ∷ rest) h zero k = leb-true code 6 (both (ltb before code) (leb code 6) (both (ltb before code && leb code 6) (rise code rest) h .0) .1)
+six before (code ∷ rest) h (suc i) k = six code rest (both (ltb before code && leb code 6) (rise code rest) h .1) i (omega arith)
+
+-- ---- what is listed
+pub listed-more : (codes : List ℕ) (c k : ℕ) → isListed (codes ++ c ∷ []) k ≡ (isListed codes k || eqb c k)
+unfolding isListed
+listed-more [] c k = or-false (eqb c k)
+listed-more (x ∷ codes) c k = ap (λ (b : Bool). eqb x k || b) (listed-more codes c k) ∙ sym (or-assoc (eqb x k) (isListed codes k) (eqb c k))
+
+-- ---- the flags
+flags-length : (n from : ℕ) (codes : List ℕ) → length (flagsFrom n from codes) ≡ n
+flags-length zero from codes = refl
+flags-length (suc n) from codes = ap suc (flags-length n (suc from) codes)
+
+flag-from : (n from i : ℕ) (codes : List ℕ) → i < n → getD (flagsFrom n from codes) i false ≡ isListed codes (from + i)
+flag-from zero from i codes h = absurd (omega arith)
+flag-from (suc n) from zero codes h =
+    let e : from ≡ from + 0 = omega arith in
+    ap (isListed codes) e
+flag-from (suc n) from (suc i) codes h =
+    let e : suc from + i ≡ from + suc i = omega arith in
+    flag-from n (suc from) i codes (omega arith) ∙ ap (isListed codes) e
+
+length-7 : (codes : List ℕ) → length (flags codes) ≡ 7
+unfolding flags
+length-7 codes = flags-length 7 0 codes
+
+flag : (codes : List ℕ) (i : ℕ) → i < 7 → getD (flags codes) i false ≡ isListed codes i
+unfolding flags
+flag codes i h =
+    let e : 0 + i ≡ i = omega arith in
+    flag-from 7 0 i codes h ∙ ap (isListed codes) e
+
+-- none is set at first
+pub none-flagged : flags [] ≡ false ∷ false ∷ false ∷ false ∷ false ∷ false ∷ false ∷ []
+unfolding flags isListed
+none-flagged = refl
+
+-- one code more
+flag-set : (codes : List ℕ) (c : ℕ) → c < 7 → set (flags codes) c true ≡ flags (codes ++ c ∷ [])
+flag-set codes c h = ext-getD false (set (flags codes) c true) (flags (codes ++ c ∷ [])) (length-set (flags codes) c true ∙ length-7 codes ∙ sym (length-7 (codes ++ c ∷ []))) (λ i k. go i (omega (arith, k, length-set (flags codes) c true, length-7 codes)) (eqb c i) refl)
+  where
+    go : (i : ℕ) → i < 7 → (b : Bool) → eqb c i ≡ b → getD (set (flags codes) c true) i false ≡ getD (flags (codes ++ c ∷ [])) i false
+    go i k true e =
+        let same : c ≡ i = eqb-true c i e in
+        subst (λ (j : ℕ). getD (set (flags codes) c true) j false ≡ true) same (getD-set-same (flags codes) c true false (omega (arith, h, length-7 codes)))
+        ∙ sym (flag (codes ++ c ∷ []) i k ∙ listed-more codes c i ∙ ap (λ (b : Bool). isListed codes i || b) e ∙ or-true (isListed codes i))
+    go i k false e =
+        getD-set-other (flags codes) c i true false (λ same. eqb-false c i e (sym same)) ∙ flag codes i k
+        ∙ sym (flag (codes ++ c ∷ []) i k ∙ listed-more codes c i ∙ ap (λ (b : Bool). isListed codes i || b) e ∙ or-false (isListed codes i))
+
+-- the flags of the first i codes, and one more
+pub flag-next : (codes : List ℕ) (i : ℕ) → rise 0 codes ≡ true → i < length codes → set (flags (take i codes)) (at codes i) true ≡ flags (take (i + 1) codes)
+flag-next codes i h k = flag-set (take i codes) (at codes i) (omega (arith, six 0 codes h i k)) ∙ ap flags (sym (ap (λ (n : ℕ). take n codes) (add-one i) ∙ take-suc codes i 0 k))
+
+-- ---- looked up
+beyond : (before : ℕ) (codes : List ℕ) → rise before codes ≡ true → (p : ℕ) → 6 < p → isListed codes p ≡ false
+unfolding rise isListed
+beyond before [] h p k = refl
+beyond before (code ∷ rest) h p k =
+    let r = both (ltb before code && leb code 6) (rise code rest) h in
+    let low : code ≤ 6 = leb-true code 6 (both (ltb before code) (leb code 6) (r .0) .1) in
+    (λ i. ne-eqb code p (λ e. omega arith) i || isListed rest p) ∙ beyond code rest (r .1) p k
+
+-- the two answers of the code
+module _ (flags : List Bool) (code : ℕ) where
+  pub flag-high : 6 < code → false ≡ flagOf flags code
+  unfolding flagOf
+  flag-high h = simp (lt-leb code 6 h)
+
+  pub flag-low : code ≤ 6 → getD flags code false ≡ flagOf flags code
+  unfolding flagOf
+  flag-low h = simp (le-leb code 6 h)
+
+-- a code that is flagged is a code that is listed, whatever the byte
+pub flagged : (codes : List ℕ) → rise 0 codes ≡ true → (p : ℕ) → flagOf (flags codes) p ≡ isListed codes p
+flagged codes h p = go (leb p 6) refl
+  where
+    go : (b : Bool) → leb p 6 ≡ b → flagOf (flags codes) p ≡ isListed codes p
+    go true e =
+        let k : p ≤ 6 = leb-true p 6 e in
+        sym (flag-low (flags codes) p k) ∙ flag codes p (omega arith)
+    go false e =
+        let k : 6 < p = leb-false p 6 e in
+        sym (flag-high (flags codes) p k) ∙ sym (beyond 0 codes h p k)

@@ -1,0 +1,13 @@
+-- The laws, by what they are about.
+-- big-endian numbers: as the code reads and writes them, and there and back
+pub mod Numbers
+-- the codes of a sheet: whether they rise, and the flags of those listed
+pub mod Codes
+-- the points, one by one, and their records
+pub mod Points
+-- the tests of a sheet, return by return
+pub mod Reading
+-- a result, as it grows by records
+pub mod Results
+-- what the work on a sheet answers, and what it leaves in the lent buffer
+pub mod Calls
