@@ -1,11 +1,12 @@
 -- What an answer says of the tests before it, and how what is said determines the answer. Assumes nothing.
 use mathlib.Core.Path.{_≡_, refl, sym, ap, _∙_}
 use mathlib.Core.Bool.{Bool, true, false, cond}
+use mathlib.Core.List.{List, [], _∷_, _++_}
 use mathlib.Core.Logic.{_⊎_, inl, inr}
 use Prim.Native.Nat.{ℕ}
 use native.Mathlib.Omega.{arith}
 use lib.Dec.{eqb}
-use Rattle.kinds.specs.Answer.{Answer, gives, refused, provided, numberOf}
+use Rattle.kinds.specs.Answer.{Answer, gives, refused, provided, Test, _else_, inOrder, AllHold, FirstFails, following, numberOf}
 use Rattle.kinds.specs.declared.Refusal.{Refusal}
 use Rattle.kinds.specs.declared.Refusal.the-variants.{Length, Kind, Range, Code, Family, Area, Room, Foreign, Sheet}
 
@@ -43,6 +44,41 @@ module _ {A : Type 0} where
   pub behind : (b : Bool) (n m : ℕ) (a : Answer A) → (n ≡ m → ⊥) → provided b n a ≡ refused m → (b ≡ true) × (a ≡ refused m)
   behind true n m a h e = (refl, e)
   behind false n m a h e = absurd (h (same-number e))
+
+-- ---- tests in their order
+module _ {A : Type 0} where
+  pub all-held : (tests : List Test) (a : Answer A) {w : A} → inOrder tests a ≡ gives w → AllHold tests × (a ≡ gives w)
+  all-held [] a h = (tt, h)
+  all-held ((b else n) ∷ tests) a h =
+      let p = passed b n (inOrder tests a) h in
+      let rest = all-held tests a (p .1) in
+      ((p .0, rest .0), rest .1)
+
+  -- where they hold, they stand before nothing
+  pub held : (tests : List Test) (a : Answer A) → AllHold tests → inOrder tests a ≡ a
+  held [] a h = refl
+  held ((b else n) ∷ tests) a h = ap (λ (b : Bool). provided b n (inOrder tests a)) (h .0) ∙ held tests a (h .1)
+
+  pub first-failed : (tests : List Test) (v : A) (n : ℕ) → inOrder tests (gives v) ≡ refused n → FirstFails tests n
+  first-failed [] v n h = absurd (not-both h)
+  first-failed ((true else m) ∷ tests) v n h = inr (refl, first-failed tests v n h)
+  first-failed ((false else m) ∷ tests) v n h = inl (refl, same-number h)
+
+  -- whatever they stand before
+  pub fails : (tests : List Test) (a : Answer A) (n : ℕ) → FirstFails tests n → inOrder tests a ≡ refused n
+  fails [] a n f = absurd f
+  fails ((b else m) ∷ tests) a n (inl f) = ap (λ (b : Bool). provided b m (inOrder tests a)) (f .0) ∙ ap refused (f .1)
+  fails ((b else m) ∷ tests) a n (inr f) = ap (λ (b : Bool). provided b m (inOrder tests a)) (f .0) ∙ fails tests a n (f .1)
+
+  pub in-two : (first second : List Test) (a : Answer A) → inOrder (first ++ second) a ≡ inOrder first (inOrder second a)
+  in-two [] second a = refl
+  in-two ((b else n) ∷ first) second a = ap (provided b n) (in-two first second a)
+
+-- what follows from a tested answer is tested
+pub following-tests : {A B : Type 0} (tests : List Test) (a : Answer A) (next : A → Answer B) → following (inOrder tests a) next ≡ inOrder tests (following a next)
+following-tests [] a next = refl
+following-tests ((true else n) ∷ tests) a next = following-tests tests a next
+following-tests ((false else n) ∷ tests) a next = refl
 
 -- ---- an answer by what is said of it
 -- the refusal that has a number

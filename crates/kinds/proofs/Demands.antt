@@ -1,6 +1,6 @@
 -- What document 01 asks of refusals, of lent buffers and of the answers' cases, and document 02's worked conversion. Stated
 -- over specs/ alone. Assumes nothing.
-use mathlib.Core.Path.{_≡_, refl, ap}
+use mathlib.Core.Path.{_≡_, refl, ap, _∙_}
 use mathlib.Core.List.{List}
 use mathlib.Core.Logic.{_↔_}
 use Prim.Native.Nat.{ℕ, _≤_, _<_}
@@ -9,7 +9,7 @@ use lib.IntN.{ℤ, pos, negℤ, _*ℤ_}
 use lib.ListN.{length, take, drop, length-append, length-drop}
 use lib.Seq.{take-append-seam, drop-append-seam}
 use Rattle.whole.specs.Round.{roundDiv}
-use Rattle.kinds.specs.Answer.{Answer, gives, refused, refusalOf, numberOf, lent}
+use Rattle.kinds.specs.Answer.{Answer, gives, refused, Test, inOrder, AllHold, FirstFails, refusalOf, numberOf, lent}
 use Rattle.kinds.specs.Cases.{localLatitude, localLongitude, wgs84Latitude, wgs84Longitude, angleShift, height, written}
 use Rattle.kinds.specs.Kinds.{converted}
 use Rattle.kinds.specs.declared.Wgs84Latitude.{Wgs84Latitude}
@@ -30,7 +30,7 @@ use Rattle.kinds.specs.declared.HeightAnswer.{HeightAnswer}
 use Rattle.kinds.specs.declared.HeightAnswer.the-variants as Height
 use Rattle.kinds.specs.declared.WrittenAnswer.{WrittenAnswer}
 use Rattle.kinds.specs.declared.WrittenAnswer.the-variants as Written
-use Rattle.kinds.proofs.Answers.{not-both, number-back, same-refusal, rebuilt, determined}
+use Rattle.kinds.proofs.Answers.{not-both, same-value, all-held, held, first-failed, fails, number-back, same-refusal, rebuilt, determined}
 
 -- ---- 'Refusal numbers'
 -- no two refusals have one number
@@ -53,6 +53,18 @@ numbers-tabled Sheet = (omega arith, omega arith)
 pub by-number : {A : Type 0} (answer : Answer A) (n : ℕ) → 0 < n → (answer ≡ refused n) ↔ (refusalOf answer ≡ n)
 by-number (gives value) n h = ((λ e. absurd (not-both e)), (λ e. absurd (omega (arith, h, e))))
 by-number (refused m) n h = (ap refusalOf, ap refused)
+
+-- of tests in their order: a value is given exactly where all hold, and a refusal is that of the first that does not
+pub given-where : {A : Type 0} (tests : List Test) (v w : A) → (inOrder tests (gives v) ≡ gives w) ↔ (AllHold tests × (v ≡ w))
+given-where tests v w = (
+  (λ h.
+      let p = all-held tests (gives v) h in
+      (p .0, same-value (p .1))),
+  (λ h. held tests (gives v) (h .0) ∙ ap gives (h .1)),
+)
+
+pub refused-where : {A : Type 0} (tests : List Test) (v : A) (n : ℕ) → (inOrder tests (gives v) ≡ refused n) ↔ FirstFails tests n
+refused-where tests v n = ((λ h. first-failed tests v n h), (λ h. fails tests (gives v) n h))
 
 -- ---- 'Refusals return .. lent memory as it came', 'changes only those, at its start'
 pub refusal-changes-nothing : (n : ℕ) (out : List ℕ) → lent (refused n) out ≡ out

@@ -1,5 +1,7 @@
 -- Document 01, 'Refusal numbers': what a call answers, and what it leaves in a lent buffer.
+use mathlib.Core.Path.{_≡_}
 use mathlib.Core.Bool.{Bool, true, false}
+use mathlib.Core.Logic.{_⊎_}
 use mathlib.Core.List.{List, [], _∷_, _++_}
 use Prim.Native.Nat.{ℕ}
 use lib.Dec.{leb}
@@ -26,6 +28,16 @@ pub data Test : Type 0 where
 abbrev pub inOrder : {A : Type 0} → List Test → Answer A → Answer A
 inOrder [] a = a
 inOrder ((holds else n) ∷ tests) a = provided holds n (inOrder tests a)
+
+-- that every test holds
+abbrev pub AllHold : List Test → Type 0
+AllHold [] = Unit {0}
+AllHold ((holds else n) ∷ tests) = (holds ≡ true) × AllHold tests
+
+-- that the first test that does not hold has the number n
+abbrev pub FirstFails : List Test → ℕ → Type 0
+FirstFails [] n = ⊥
+FirstFails ((holds else m) ∷ tests) n = ((holds ≡ false) × (m ≡ n)) ⊎ ((holds ≡ true) × FirstFails tests n)
 
 -- what follows from a value; a refusal stays
 abbrev pub following : {A B : Type 0} → Answer A → (A → Answer B) → Answer B

@@ -5,18 +5,22 @@ use mathlib.Core.Bool.{Bool, true, false, not, _&&_}
 use mathlib.Core.List.{List, [], _∷_, _++_, map, flatMap}
 use Prim.Native.Nat.{ℕ, zero, suc, _+_, _-_, _*_, _<_, _≤_}
 use native.Mathlib.Omega.{arith}
+use lib.IntN.{ℤ}
 use lib.ListN.{length, take, drop, length-append, length-drop, length-map}
 use lib.Seq.{take-all}
 use borrow.Author.Tests.{le-leb, lt-leb, not-true, not-false}
 use mir.Syntax.{w64}
-use mir.Val.{Fits}
-use Rattle.kinds.specs.Answer.{Answer, gives, refused, placed, counted, lent}
+use mir.Val.{Fits, SFits, toZ, ofZ}
+use Rattle.whole.proofs.Words.{of}
+use Rattle.kinds.specs.Answer.{Answer, gives, refused, Test, inOrder, placed, counted, lent}
+use Rattle.kinds.proofs.Answers.{all-held, held, first-failed, fails, in-two, following-tests}
 use Rattle.datum.specs.Tables.{every}
 use Rattle.sheet.specs.Numbers.{inBytes}
-use Rattle.sheet.specs.Sheet.{Point, serial, datums, codes, count, body, point, points, pieces, rise, isListed, said}
-use Rattle.sheet.specs.Result.{inRecord, answerAt, resultOf}
-use Rattle.sheet.specs.Inside.{flags, flagOf, allFlagged, worked, records, finished}
+use Rattle.sheet.specs.Sheet.{Point, serial, datums, codes, count, body, point, points, pieces, rise, isListed, serialTests, countTests, pointTests, said}
+use Rattle.sheet.specs.Result.{inRecord, answerAt, resultOf, workOf}
+use Rattle.sheet.specs.Inside.{flags, flagOf, allFlagged, worked, records, layoutAnswer, laidOut, readOf, finished}
 use Rattle.sheet.specs.declared.Layout.{Layout}
+use Rattle.sheet.specs.declared.LayoutAnswer.{LayoutAnswer}
 use Rattle.sheet.proofs.Codes.{flagged}
 use Rattle.sheet.proofs.Reading.{Laid, codes-are}
 use Rattle.sheet.proofs.Results.{records-long}
@@ -124,3 +128,32 @@ module _ (t : List ℕ) {layout : Layout} (l : Laid t layout) where
           let long : 6 + n * 13 ≡ length (resultOf (said t)) = omega (arith, result-long t, l .is-points) in
           let bytes : inBytes 4 s ++ inBytes 2 n ++ records n (take (length t - (5 + d + 2)) (drop (5 + d + 2) t)) ≡ resultOf (said t) = (λ i. inBytes 4 (is-s i) ++ inBytes 2 (l .is-points i) ++ records (l .is-points i) (body-is i)) ∙ result-is t in
           simp (← all-is, not-false b all, le-leb (length (resultOf (said t))) (length out) (omega (arith, room, long))) (ap gives long, is-new ∙ (λ i. bytes i ++ drop (long i) out))
+
+-- ---- any sheet
+-- what `read` answers of the unit's number as it came
+pub read-told : {unit : ℤ} (t : List ℕ) {given case : LayoutAnswer} → SFits w64 unit → layoutAnswer given ≡ readOf (toZ w64 (ofZ w64 unit)) t → given ≡ case → readOf unit t ≡ layoutAnswer case
+read-told t fits e same = ap (λ (z : ℤ). readOf z t) (sym (of fits .reads)) ∙ sym e ∙ ap layoutAnswer same
+
+module _ (unit : ℤ) (t : List ℕ) (room : ℕ) where
+  abbrev front : List Test
+  front = serialTests unit t ++ countTests t
+
+  read-front : readOf unit t ≡ inOrder front (gives (record { datums = datums t; points = count t }))
+  unfolding readOf laidOut
+  read-front = sym (in-two (serialTests unit t) (countTests t) (gives (record { datums = datums t; points = count t })))
+
+  work-front : workOf unit t room ≡ inOrder front (finished t room)
+  unfolding finished
+  work-front = following-tests (front ++ pointTests t) (gives (said t)) (λ sheet. placed (resultOf sheet) room) ∙ in-two front (pointTests t) (placed (resultOf (said t)) room)
+
+  -- read, it is laid out, and the work goes on
+  pub laid-out : {layout : Layout} → readOf unit t ≡ gives layout → laidOut t ≡ gives layout
+  unfolding readOf
+  laid-out h = all-held (serialTests unit t) (laidOut t) h .1
+
+  pub read-on : {layout : Layout} → readOf unit t ≡ gives layout → finished t room ≡ workOf unit t room
+  read-on h = sym (work-front ∙ held front (finished t room) (all-held front (gives (record { datums = datums t; points = count t })) (sym read-front ∙ h) .0))
+
+  -- and a refusal stays
+  pub not-read : {n : ℕ} → readOf unit t ≡ refused n → refused n ≡ workOf unit t room
+  not-read {n} h = sym (work-front ∙ fails front (finished t room) n (first-failed front (record { datums = datums t; points = count t }) n (sym read-front ∙ h)))

@@ -1,38 +1,43 @@
+-- `sheet::work` meets its contract. Assumes nothing.
+use mathlib.Core.Path.{ap, _∙_}
+use mathlib.Core.List.{List}
+use Prim.Native.Nat.{ℕ}
+use lib.ListN.{length}
 use borrow.Author.Needs.{needs}
+use Rattle.kinds.specs.Answer.{Answer, counted, lent}
+use Rattle.sheet.proofs.Calls.{read-told, laid-out, read-on, not-read}
 use Rattle.sheet.proofs.work.Statement.{statement}
 use Rattle.sheet.proofs.work.Tie as tie
-use Rattle.sheet.proofs.work.Reads as reads
-use Rattle.sheet.proofs.work.Lts as lts
-use Rattle.sheet.proofs.finished.Reads as finished-reads
-use Rattle.sheet.proofs.read.Reads as read-reads
 
--- src/lib.rt:29:11
 read-requires : tie.Need-read-requires
 read-requires c κs = search needs
 
--- src/lib.rt:30:29
 enum-known-layout : tie.Need-enum-known-layout
 enum-known-layout c = search needs
 
--- src/lib.rt:30:40
 finished-requires : tie.Need-finished-requires
-finished-requires c κs = ?
+finished-requires c κs =
+    let s = c .before .before .before .before .before .before .before in
+    laid-out (s .args .unit) (s .args .sheet .now) 0 (read-told _ (s .fits .unit) (c .before .before .before .before .read .ensures) (c .before .before .layout .given .1))
 
--- src/lib.rt:31:31
 enum-known-why : tie.Need-enum-known-why
 enum-known-why c = search needs
 
--- src/lib.rt:25:1
 same-length : tie.Need-same-length
 same-length c = search needs
 
--- src/lib.rt:25:1
 returns : tie.Need-returns
-returns c = ?
+returns c =
+    let s = c .before .before .before .before .before .before .before .before .before .before in
+    let on = read-on (s .args .unit) (s .args .sheet .now) (length (s .args .result .now)) (read-told _ (s .fits .unit) (c .before .before .before .before .before .before .before .read .ensures) (c .before .before .before .before .before .layout .given .1)) in
+    let done = c .before .before .finished .ensures in
+    (done .0 ∙ ap counted on, done .1 ∙ ap (λ (w : Answer (List ℕ)). lent w (s .args .result .now)) on)
 
--- src/lib.rt:25:1
 returns-2 : tie.Need-returns-2
-returns-2 c = ?
+returns-2 c =
+    let s = c .before .before .before .before .before .before in
+    let stays = not-read (s .args .unit) (s .args .sheet .now) (length (s .args .result .now)) (read-told _ (s .fits .unit) (c .before .before .before .read .ensures) (c .before .why .given .1)) in
+    (ap counted stays, ap (λ (w : Answer (List ℕ)). lent w (s .args .result .now)) stays)
 
 pub work-spec : {M : Type 1} → statement M
 work-spec =
