@@ -7,6 +7,7 @@ use Prim.Native.Nat.{ℕ, _^_}
 use lib.Dec.{T, lit<, lit≤}
 use lib.IntN.{ℤ, pos, negℤ, _-ℤ_, _*ℤ_}
 use Rattle.whole.specs.Round.{scale, roundDiv}
+use Rattle.whole.specs.Every.{every}
 use Rattle.kinds.specs.Answer.{Answer, gives, refused, provided}
 use Rattle.kinds.specs.Kinds.{within, isFourBytes}
 use Rattle.kinds.proofs.Answers.{number-back, rebuilt, determined}
@@ -18,7 +19,7 @@ use Rattle.equation.proofs.Demands as equation
 use Rattle.datum.specs.Page.{Page, Family, shift, geoid, isShift, isGeoid, isEither, each, Each, OfShift, OfGeoid}
 use Rattle.datum.specs.Point.{isCode, pages, pageOf, inArea, inRange, evaluated, worked, pointOf, asked, answerOf, shiftOf, geoidOf, valuesOf}
 use Rattle.datum.specs.Exact.{exact, AllWithin, demanded, boundsOf}
-use Rattle.datum.specs.Tables.{counted, inAll, stands, Reordered, ends, every}
+use Rattle.datum.specs.Tables.{counted, inAll, stands, Reordered, ends}
 use Rattle.datum.specs.Cases.{shiftAnswer, geoidAnswer, pointAnswer}
 use Rattle.kinds.specs.declared.Refusal.the-variants as Refusal
 use Rattle.kinds.specs.declared.HeightAnswer.{HeightAnswer}

@@ -42,8 +42,3 @@ ends page =
     && not (inArea page (pos (page .north + 1)) (pos (page .east)))
     && not (inArea page (pos (page .south)) (pos (page .west - 1)))
     && not (inArea page (pos (page .north)) (pos (page .east + 1)))
-
--- whether a test holds of every one
-abbrev pub every : {A : Type 0} → (A → Bool) → List A → Bool
-every test [] = true
-every test (one ∷ rest) = test one && every test rest

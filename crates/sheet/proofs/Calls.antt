@@ -12,9 +12,10 @@ use borrow.Author.Tests.{le-leb, lt-leb, not-true, not-false}
 use mir.Syntax.{w64}
 use mir.Val.{Fits, SFits, toZ, ofZ}
 use Rattle.whole.proofs.Words.{of}
+use Rattle.whole.specs.Every.{every}
+use Rattle.whole.specs.Places.{inPlaces}
 use Rattle.kinds.specs.Answer.{Answer, gives, refused, Test, inOrder, placed, counted, lent}
 use Rattle.kinds.proofs.Answers.{all-held, held, first-failed, fails, in-two, following-tests}
-use Rattle.datum.specs.Tables.{every}
 use Rattle.sheet.specs.Numbers.{inBytes}
 use Rattle.sheet.specs.Sheet.{Point, serial, datums, codes, count, body, point, points, pieces, rise, isListed, serialTests, countTests, pointTests, said}
 use Rattle.sheet.specs.Result.{inRecord, answerAt, resultOf, workOf}
@@ -50,7 +51,7 @@ unfolding resultOf records points
 result-is t = λ i. inBytes 4 (serial t) ++ inBytes 2 (sym (points-counted t) i) ++ of-points (pieces (count t) 9 (body t)) i
 
 pub result-long : (t : List ℕ) → length (resultOf (said t)) ≡ 6 + count t * 13
-unfolding inBytes
+unfolding inBytes inPlaces
 result-long t = ap length (sym (result-is t)) ∙ omega (arith, length-append (inBytes 4 (serial t) ++ inBytes 2 (count t)) (records (count t) (body t)), records-long (count t) (body t))
 
 -- ---- a sheet that was laid out

@@ -4,17 +4,20 @@ use mathlib.Core.Bool.{Bool, true, false}
 use mathlib.Core.List.{List, [], _∷_}
 use Prim.Native.Nat.{ℕ, zero, suc, _+_, _-_, _*_, _/_, _%_, _<_, _≤_, _^_}
 use native.Mathlib.Omega.{arith}
-use lib.Dec.{T, lit<}
+use lib.Dec.{T, ltb}
 use lib.IntN.{ℤ, pos, negsuc, natAbs, _+ℤ_, _-ℤ_}
 use lib.ListN.{length}
 use lib.Signed.{ltZ, mag, nonNeg}
-use borrow.Author.Tests.{lt-ltb, le-ltb}
+use borrow.Author.Tests.{ltb-true, ltb-false, lt-ltb, le-ltb}
 use mir.Syntax.{w32, w64}
 use mir.Val.{Fits, SFits, toZ, ofZ}
 use Rattle.whole.proofs.Ring.{pos-sub, pos-sub-≤}
 use Rattle.whole.proofs.Sizes.{abs-+, abs--}
 use Rattle.whole.proofs.Signs.{below-zero, from-zero}
+use Rattle.whole.proofs.Places.{in-places-long, from-in-places, from-below, in-from-places}
 use Rattle.whole.proofs.Words.{Holds, of, lit, zero-is, from-unsigned, to, wr, asks, gives, tested, widened, to-unsigned, to-unsigned-asks, small, sized}
+use Rattle.whole.specs.Every.{every}
+use Rattle.whole.specs.Places.{fromPlaces, inPlaces}
 use Rattle.kinds.specs.Bytes.{part}
 use Rattle.kinds.proofs.Bytes.{at, part-one, part-two, part-four}
 use Rattle.sheet.specs.Numbers.{number, inBytes, complement, signed}
@@ -22,26 +25,26 @@ use Rattle.sheet.specs.Numbers.{number, inBytes, complement, signed}
 -- ---- unsigned
 module _ (from : ℕ) (t : List ℕ) where
   pub one-read : from + 1 ≤ length t → at t from ≡ number (part from 1 t)
-  unfolding number
+  unfolding number fromPlaces
   one-read h = sym (ap number (part-one from t h) ∙ omega arith)
 
   pub two-read : from + 2 ≤ length t → at t from * 256 + at t (from + 1) ≡ number (part from 2 t)
-  unfolding number
+  unfolding number fromPlaces
   two-read h = sym (ap number (part-two from t h) ∙ omega arith)
 
   pub four-read : from + 4 ≤ length t → at t from * 16777216 + at t (from + 1) * 65536 + at t (from + 2) * 256 + at t (from + 3) ≡ number (part from 4 t)
-  unfolding number
+  unfolding number fromPlaces
   four-read h = sym (ap number (part-four from t h) ∙ omega arith)
 
 pub four-written : (n : ℕ) → n < 4294967296 → n / 16777216 ∷ n / 65536 % 256 ∷ n / 256 % 256 ∷ n % 256 ∷ [] ≡ inBytes 4 n
-unfolding inBytes
+unfolding inBytes inPlaces
 four-written n h =
     let a : n / 16777216 ≡ n / 16777216 % 256 = omega arith in
     let d : n % 256 ≡ n / 1 % 256 = omega arith in
     λ i. a i ∷ n / 65536 % 256 ∷ n / 256 % 256 ∷ d i ∷ []
 
 pub two-written : (n : ℕ) → n < 65536 → n / 256 ∷ n % 256 ∷ [] ≡ inBytes 2 n
-unfolding inBytes
+unfolding inBytes inPlaces
 two-written n h =
     let a : n / 256 ≡ n / 256 % 256 = omega arith in
     let d : n % 256 ≡ n / 1 % 256 = omega arith in
@@ -111,3 +114,56 @@ module _ (x : ℤ) (fits : SFits w32 x) where
 
     pub same-is : natAbs (toZ w32 (ofZ w32 x)) ≡ complement x
     same-is = to-unsigned word-same
+
+-- ---- there and back
+pub number-back : (w n : ℕ) → n < 256 ^ w → number (inBytes w n) ≡ n
+unfolding number inBytes
+number-back w n h = from-in-places 256 (omega arith) w n h
+
+pub bytes-back : (bytes : List ℕ) → every (λ byte. ltb byte 256) bytes ≡ true → inBytes (length bytes) (number bytes) ≡ bytes
+unfolding number inBytes
+bytes-back bytes h = in-from-places 256 (omega arith) bytes h
+
+pub number-below : (bytes : List ℕ) → every (λ byte. ltb byte 256) bytes ≡ true → number bytes < 256 ^ length bytes
+unfolding number
+number-below bytes h = from-below 256 (omega arith) bytes h
+
+pub bytes-long : (w n : ℕ) → length (inBytes w n) ≡ w
+unfolding inBytes
+bytes-long w n = in-places-long 256 w n
+
+-- what a number of 4 bytes stands for, by its case
+low-is : (n : ℕ) → n < 2147483648 → signed n ≡ pos n
+unfolding signed
+low-is n h = simp (lt-ltb n 2147483648 h)
+
+high-is : (n : ℕ) → 2147483648 ≤ n → n < 4294967296 → signed n ≡ negsuc (4294967296 - suc n)
+unfolding signed
+high-is n h k = simp (le-ltb n 2147483648 h) (pos-sub n 4294967296 ∙ simp (lt-ltb n 4294967296 k))
+
+pub signed-back : (x : ℤ) → SFits w32 x → signed (complement x) ≡ x
+unfolding complement
+signed-back (pos n) f = low-is n (f .sfits)
+signed-back (negsuc n) f =
+    let e : 4294967296 - suc (4294967296 - suc n) ≡ n = omega (arith, f .sfits) in
+    high-is (4294967296 - suc n) (omega (arith, f .sfits)) (omega arith) ∙ ap negsuc e
+
+pub complement-below : (x : ℤ) → SFits w32 x → complement x < 4294967296
+unfolding complement
+complement-below (pos n) f = omega (arith, f .sfits)
+complement-below (negsuc n) f = omega arith
+
+module _ (n : ℕ) (h : n < 4294967296) where
+  by-half : (P : ℤ → Type 0) → (n < 2147483648 → P (pos n)) → (2147483648 ≤ n → P (negsuc (4294967296 - suc n))) → P (signed n)
+  by-half P low high = go (ltb n 2147483648) refl
+    where
+      go : (b : Bool) → ltb n 2147483648 ≡ b → P (signed n)
+      go true e = subst P (sym (low-is n (ltb-true n 2147483648 e))) (low (ltb-true n 2147483648 e))
+      go false e = subst P (sym (high-is n (ltb-false n 2147483648 e) h)) (high (ltb-false n 2147483648 e))
+
+  pub complement-back : complement (signed n) ≡ n
+  unfolding complement
+  complement-back = by-half (λ z. complement z ≡ n) (λ low. refl) (λ high. omega (arith, high, h))
+
+  pub signed-fits : SFits w32 (signed n)
+  signed-fits = by-half (SFits w32) (λ low. record { sfits = low }) (λ high. record { sfits = omega (arith, high, h) })

@@ -11,12 +11,13 @@ use borrow.Author.Tests.{not-true, not-false}
 use mir.Syntax.{w64}
 use mir.Val.{SFits, toZ, ofZ}
 use Rattle.whole.proofs.Words.{of, from-unsigned}
+use Rattle.whole.specs.Every.{every}
+use Rattle.whole.specs.Places.{inPlaces}
 use Rattle.kinds.specs.Answer.{numberOf}
 use Rattle.kinds.specs.Bytes.{part}
 use Rattle.kinds.specs.declared.Height.{Height}
 use Rattle.kinds.specs.declared.Refusal.{Refusal}
 use Rattle.kinds.proofs.Bytes.{at}
-use Rattle.datum.specs.Tables.{every}
 use Rattle.datum.specs.Point.{answerOf}
 use Rattle.datum.specs.Cases.{pointAnswer}
 use Rattle.datum.specs.declared.Shifts.{Shifts}
@@ -42,7 +43,7 @@ piece-lent n i body more whole =
 -- a, b and c are the bytes of x, y and z
 pub record-is : (refusal : ℕ) (x y z : ℤ) (a b c : List ℕ) → a ≡ inBytes 4 (complement x) → b ≡ inBytes 4 (complement y) → c ≡ inBytes 4 (complement z)
     → refusal ∷ at a 0 ∷ at a 1 ∷ at a 2 ∷ at a 3 ∷ at b 0 ∷ at b 1 ∷ at b 2 ∷ at b 3 ∷ at c 0 ∷ at c 1 ∷ at c 2 ∷ at c 3 ∷ [] ≡ recordOf refusal x y z
-unfolding recordOf inBytes flatMap
+unfolding recordOf inBytes flatMap inPlaces
 record-is refusal x y z a b c p q r = λ i.
     refusal ∷ at (p i) 0 ∷ at (p i) 1 ∷ at (p i) 2 ∷ at (p i) 3 ∷ at (q i) 0 ∷ at (q i) 1 ∷ at (q i) 2 ∷ at (q i) 3 ∷ at (r i) 0 ∷ at (r i) 1 ∷ at (r i) 2 ∷ at (r i) 3 ∷ []
 

@@ -7,6 +7,7 @@ use native.Mathlib.Omega.{arith}
 use lib.ListN.{length, take, drop, length-append, length-drop, drop-of-length-le}
 use lib.Seq.{take-at, drop-at, take-all, take-length, drop-drop}
 use borrow.Rule.Slice.PartMut.{putMid}
+use Rattle.whole.specs.Places.{inPlaces}
 use Rattle.kinds.proofs.Bytes.{at}
 use Rattle.sheet.specs.Numbers.{inBytes}
 use Rattle.sheet.specs.Sheet.{pieces}
@@ -16,7 +17,7 @@ use Rattle.sheet.proofs.Numbers.{two-written}
 
 -- ---- how long
 pub worked-long : (t : List ℕ) → length (worked t) ≡ 13
-unfolding worked inRecord inBytes flatMap
+unfolding worked inRecord inBytes flatMap inPlaces
 worked-long t = refl
 
 pub records-long : (n : ℕ) (body : List ℕ) → length (records n body) ≡ n * 13
@@ -72,11 +73,11 @@ no-records body = refl
 -- ---- the start of a result, and its records
 module _ (serial points : ℕ) where
   pub start-is : (s : List ℕ) → s ≡ inBytes 4 serial → points ≤ 500 → at s 0 ∷ at s 1 ∷ at s 2 ∷ at s 3 ∷ points / 256 ∷ points % 256 ∷ [] ≡ inBytes 4 serial ++ inBytes 2 points
-  unfolding inBytes
+  unfolding inBytes inPlaces
   start-is s e most = (λ i. at (e i) 0 ∷ at (e i) 1 ∷ at (e i) 2 ∷ at (e i) 3 ∷ two-written points (omega arith) i)
 
   start-long : length (inBytes 4 serial ++ inBytes 2 points) ≡ 6
-  unfolding inBytes
+  unfolding inBytes inPlaces
   start-long = refl
 
   pub put-is : (body d0 d new start : List ℕ) → start ≡ inBytes 4 serial ++ inBytes 2 points → 6 + points * 13 ≤ length d0

@@ -5,8 +5,8 @@ use Prim.Native.Nat.{ℕ, zero, suc}
 use lib.Dec.{leb}
 use lib.IntN.{ℤ}
 use lib.ListN.{getD}
+use Rattle.whole.specs.Every.{every}
 use Rattle.kinds.specs.Answer.{Answer, gives, refused, numberOf, inOrder, placed}
-use Rattle.datum.specs.Tables.{every}
 use Rattle.sheet.specs.Numbers.{inBytes, complement}
 use Rattle.sheet.specs.Sheet.{Point, datums, count, point, points, pieces, pointLength, isListed, serialTests, countTests, pointTests, said}
 use Rattle.sheet.specs.Result.{inRecord, answerAt, resultOf}

@@ -1,4 +1,5 @@
 pub mod Numbers
 pub mod Sheet
 pub mod Result
+pub mod Form
 pub mod Inside

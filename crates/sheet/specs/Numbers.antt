@@ -1,20 +1,18 @@
 -- Document 01, 'The unit sheet and its result': 'Numbers are big-endian.'
 use mathlib.Core.Bool.{cond}
-use mathlib.Core.List.{List, [], _∷_}
-use Prim.Native.Nat.{ℕ, zero, suc, _+_, _-_, _*_, _/_, _%_, _^_}
+use mathlib.Core.List.{List}
+use Prim.Native.Nat.{ℕ, suc, _-_}
 use lib.Dec.{ltb}
 use lib.IntN.{ℤ, pos, negsuc, _-ℤ_}
-use lib.ListN.{length}
+use Rattle.whole.specs.Places.{fromPlaces, inPlaces}
 
 -- the number that bytes say, the first counting most
 unfoldable pub number : List ℕ → ℕ
-number [] = 0
-number (byte ∷ rest) = byte * 256 ^ length rest + number rest
+number bytes = fromPlaces 256 bytes
 
 -- n in so many bytes
 unfoldable pub inBytes : ℕ → ℕ → List ℕ
-inBytes zero n = []
-inBytes (suc w) n = (n / 256 ^ w % 256) ∷ inBytes w n
+inBytes w n = inPlaces 256 w n
 
 -- ---- two's complement, in 4 bytes
 -- a number below zero is written as 4,294,967,296 more

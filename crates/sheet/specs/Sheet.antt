@@ -6,9 +6,9 @@ use Prim.Native.Nat.{ℕ, zero, suc, _+_, _*_}
 use lib.Dec.{eqb, leb, ltb}
 use lib.IntN.{ℤ, pos, negsuc}
 use lib.ListN.{length, take, drop}
+use Rattle.whole.specs.Every.{every}
 use Rattle.kinds.specs.Answer.{Answer, gives, Test, _else_, inOrder}
 use Rattle.kinds.specs.Bytes.{part}
-use Rattle.datum.specs.Tables.{every}
 use Rattle.sheet.specs.Numbers.{number, signed}
 
 pub record Point : Type 0 where

@@ -17,5 +17,7 @@ pub mod Divided
 pub mod Bools
 -- a test computed for every number below n
 pub mod Below
+-- a number in places of a base, and back
+pub mod Places
 -- what document 01 asks of every rounding
 pub mod Demands

@@ -1,1 +1,3 @@
 pub mod Round
+pub mod Every
+pub mod Places
