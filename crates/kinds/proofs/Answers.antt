@@ -1,11 +1,12 @@
 -- What an answer says of the tests before it, and how what is said determines the answer. Assumes nothing.
 use mathlib.Core.Path.{_≡_, refl, sym, ap, _∙_}
-use mathlib.Core.Bool.{Bool, true, false, cond}
+use mathlib.Core.Bool.{Bool, true, false, _&&_, cond}
 use mathlib.Core.List.{List, [], _∷_, _++_}
-use mathlib.Core.Logic.{_⊎_, inl, inr}
+use mathlib.Core.Logic.{_⊎_, inl, inr, ⊎-elim}
 use Prim.Native.Nat.{ℕ}
 use native.Mathlib.Omega.{arith}
 use lib.Dec.{eqb}
+use Rattle.whole.proofs.Bools.{both}
 use Rattle.kinds.specs.Answer.{Answer, gives, refused, provided, Test, _else_, inOrder, AllHold, FirstFails, following, numberOf}
 use Rattle.kinds.specs.declared.Refusal.{Refusal}
 use Rattle.kinds.specs.declared.Refusal.the-variants.{Length, Kind, Range, Code, Family, Area, Room, Foreign, Sheet}
@@ -59,10 +60,14 @@ module _ {A : Type 0} where
   held [] a h = refl
   held ((b else n) ∷ tests) a h = ap (λ (b : Bool). provided b n (inOrder tests a)) (h .0) ∙ held tests a (h .1)
 
+  -- a refusal is that of the first that fails, or of what they stand before
+  pub first-or-behind : (tests : List Test) (a : Answer A) (n : ℕ) → inOrder tests a ≡ refused n → FirstFails tests n ⊎ (AllHold tests × (a ≡ refused n))
+  first-or-behind [] a n h = inr (tt, h)
+  first-or-behind ((true else m) ∷ tests) a n h = ⊎-elim (λ f. inl (inr (refl, f))) (λ p. inr ((refl, p .0), p .1)) (first-or-behind tests a n h)
+  first-or-behind ((false else m) ∷ tests) a n h = inl (inl (refl, same-number h))
+
   pub first-failed : (tests : List Test) (v : A) (n : ℕ) → inOrder tests (gives v) ≡ refused n → FirstFails tests n
-  first-failed [] v n h = absurd (not-both h)
-  first-failed ((true else m) ∷ tests) v n h = inr (refl, first-failed tests v n h)
-  first-failed ((false else m) ∷ tests) v n h = inl (refl, same-number h)
+  first-failed tests v n h = ⊎-elim (λ f. f) (λ p. absurd (not-both (p .1))) (first-or-behind tests (gives v) n h)
 
   -- whatever they stand before
   pub fails : (tests : List Test) (a : Answer A) (n : ℕ) → FirstFails tests n → inOrder tests a ≡ refused n
@@ -73,6 +78,16 @@ module _ {A : Type 0} where
   pub in-two : (first second : List Test) (a : Answer A) → inOrder (first ++ second) a ≡ inOrder first (inOrder second a)
   in-two [] second a = refl
   in-two ((b else n) ∷ first) second a = ap (provided b n) (in-two first second a)
+
+-- what is computed of the number of each test holds of the number of the first that fails
+abbrev pub of-numbers : (ℕ → Bool) → List Test → Bool
+of-numbers P [] = true
+of-numbers P ((b else m) ∷ tests) = P m && of-numbers P tests
+
+pub first-number : (P : ℕ → Bool) (tests : List Test) (n : ℕ) → of-numbers P tests ≡ true → FirstFails tests n → P n ≡ true
+first-number P [] n p f = absurd f
+first-number P ((b else m) ∷ tests) n p (inl f) = ap P (sym (f .1)) ∙ both (P m) (of-numbers P tests) p .0
+first-number P ((b else m) ∷ tests) n p (inr f) = first-number P tests n (both (P m) (of-numbers P tests) p .1) (f .1)
 
 -- what follows from a tested answer is tested
 pub following-tests : {A B : Type 0} (tests : List Test) (a : Answer A) (next : A → Answer B) → following (inOrder tests a) next ≡ inOrder tests (following a next)

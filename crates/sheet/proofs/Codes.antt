@@ -1,6 +1,6 @@
 -- The codes that a sheet lists: whether they rise, their flags, and whether a point's code is flagged. Assumes nothing.
 use mathlib.Core.Path.{_≡_, refl, sym, ap, _∙_, subst}
-use mathlib.Core.Bool.{Bool, true, false, not, _&&_, _||_, or-true, or-false, or-assoc}
+use mathlib.Core.Bool.{Bool, true, false, not, _&&_, _||_, or-true, or-false, or-assoc, false≢true}
 use mathlib.Core.List.{List, [], _∷_, _++_, map}
 use mathlib.Core.Logic.{_≢_}
 use Prim.Native.Nat.{ℕ, zero, suc, _+_, _-_, _*_, _<_, _≤_}
@@ -9,8 +9,8 @@ use native.Mathlib.Omega.{arith}
 use lib.Dec.{T, eqb, leb, ltb}
 use lib.ListN.{length, getD, set, take, drop, length-set, drop-of-length-le}
 use lib.Seq.{drop-cons, take-suc, take-all, ext-getD, getD-set-same, getD-set-other}
-use borrow.Author.Tests.{ne-eqb, eqb-true, eqb-false, leb-true, leb-false, le-leb, lt-leb, not-true, not-false}
-use Rattle.whole.proofs.Bools.{both}
+use borrow.Author.Tests.{ne-eqb, eqb-true, eqb-false, ltb-true, leb-true, leb-false, le-leb, lt-leb, not-true, not-false}
+use Rattle.whole.proofs.Bools.{both, either}
 use Rattle.kinds.proofs.Bytes.{at}
 use Rattle.sheet.specs.Sheet.{rise, isListed}
 use Rattle.sheet.specs.Inside.{flagsFrom, flags, flagOf}
@@ -46,6 +46,23 @@ pub listed-more : (codes : List ℕ) (c k : ℕ) → isListed (codes ++ c ∷ []
 unfolding isListed
 listed-more [] c k = or-false (eqb c k)
 listed-more (x ∷ codes) c k = ap (λ (b : Bool). eqb x k || b) (listed-more codes c k) ∙ sym (or-assoc (eqb x k) (isListed codes k) (eqb c k))
+
+-- of codes that rise, what is listed is 1 to 6
+pub listed-six : (before : ℕ) (codes : List ℕ) → rise before codes ≡ true → (p : ℕ) → isListed codes p ≡ true → (before < p) × (p ≤ 6)
+unfolding rise isListed
+listed-six before [] h p k = absurd (false≢true k)
+listed-six before (code ∷ rest) h p k =
+    let r = both (ltb before code && leb code 6) (rise code rest) h in
+    let c = both (ltb before code) (leb code 6) (r .0) in
+    let above : before < code = ltb-true before code (c .0) in
+    let low : code ≤ 6 = leb-true code 6 (c .1) in
+    either (eqb code p) (isListed rest p) k
+    (λ e.
+        let same : code ≡ p = eqb-true code p e in
+        (omega arith, omega arith))
+    (λ e.
+        let q = listed-six code rest (r .1) p e in
+        (omega (arith, above, q .0), q .1))
 
 -- ---- the flags
 flags-length : (n from : ℕ) (codes : List ℕ) → length (flagsFrom n from codes) ≡ n

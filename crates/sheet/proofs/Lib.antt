@@ -11,3 +11,9 @@ pub mod Reading
 pub mod Results
 -- what the work on a sheet answers, and what it leaves in the lent buffer
 pub mod Calls
+-- when a sheet is worked, and when each refusal is given
+pub mod Works
+-- what stands at each place of a result, and what is read there
+pub mod Places
+-- what document 01 asks of the sheet and its result
+pub mod Demands

@@ -9,6 +9,10 @@ use Rattle.datum.specs.Point.{answerOf, valuesOf}
 use Rattle.sheet.specs.Numbers.{inBytes, complement}
 use Rattle.sheet.specs.Sheet.{Point, Sheet, sheetOf}
 
+-- '13 bytes a point'
+abbrev pub recordLength : ℕ
+recordLength = 13
+
 -- '0 and three signed 4-byte numbers (dLat, dLon, dH, or N and two zeros), or the point's refusal number and twelve zero bytes'
 unfoldable pub inRecord : Answer (Family ℤ) → List ℕ
 inRecord answer = refusalOf answer ∷ flatMap (λ value. inBytes 4 (complement value)) (valuesOf (pos 0) answer)

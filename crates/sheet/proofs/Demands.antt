@@ -1,0 +1,178 @@
+-- What document 01 asks of the unit sheet and its result. Stated over specs/ alone. Assumes nothing.
+use mathlib.Core.Path.{_≡_, refl, sym, ap, _∙_, subst}
+use mathlib.Core.Bool.{true, false, not, false≢true}
+use mathlib.Core.List.{List, [], _∷_, flatMap}
+use mathlib.Core.Logic.{_↔_, _⊎_, inl, inr, ⊎-elim}
+use Prim.Native.Nat.{ℕ, zero, suc, _+_, _*_, _<_, _≤_, _^_}
+use native.Mathlib.Omega.{arith}
+use lib.Dec.{eqb, leb}
+use lib.IntN.{ℤ, pos, negℤ}
+use lib.ListN.{length, drop, replicate}
+use borrow.Author.Tests.{leb-true, le-leb, eqb-false, ne-eqb, not-true, not-false}
+use Rattle.whole.specs.Places.{fromPlaces, inPlaces}
+use Rattle.whole.proofs.Bools.{joined}
+use Rattle.kinds.specs.Answer.{Answer, gives, refused, AllHold, FirstFails, refusalOf, counted, lent}
+use Rattle.kinds.specs.Kinds.{within, isFourBytes}
+use Rattle.kinds.specs.Bytes.{part}
+use Rattle.kinds.proofs.Tested.{of-four-bytes}
+use Rattle.datum.specs.Page.{Family, isEither}
+use Rattle.datum.specs.Point.{isCode, pageOf, valuesOf}
+use Rattle.datum.specs.Exact.{exact, AllWithin, demanded}
+use Rattle.datum.proofs.Demands as datum
+use Rattle.sheet.specs.Numbers.{number, inBytes, complement, signed}
+use Rattle.sheet.specs.Sheet.{Sheet, serial, datums, count, points, isUnit, tests, said, sheetOf}
+use Rattle.sheet.specs.Result.{inRecord, answerAt, resultOf, workOf}
+use Rattle.sheet.specs.Places.{pointAt, recordAt, recordRefusal, recordNumbers}
+use Rattle.sheet.specs.Form.{sheetBytes, isSheet, areBytes}
+use Rattle.sheet.proofs.Numbers as numbers
+use Rattle.sheet.proofs.Calls.{result-long}
+use Rattle.sheet.proofs.Works as works
+use Rattle.sheet.proofs.Places as places
+
+-- ---- 'Numbers are big-endian', 'two's complement'
+-- a number is read back from its bytes, and bytes are written back from their number
+pub number-back : (w n : ℕ) → n < 256 ^ w → number (inBytes w n) ≡ n
+number-back w n h = numbers.number-back w n h
+
+pub bytes-back : (bytes : List ℕ) → areBytes bytes ≡ true → inBytes (length bytes) (number bytes) ≡ bytes
+bytes-back bytes h = numbers.bytes-back bytes h
+
+-- likewise a signed one
+pub signed-back : (x : ℤ) → isFourBytes x ≡ true → signed (complement x) ≡ x
+signed-back x h = numbers.signed-back x (of-four-bytes x h)
+
+pub complement-back : (n : ℕ) → n < 4294967296 → complement (signed n) ≡ n
+complement-back n h = numbers.complement-back n h
+
+-- the first byte counts most: code 1's dLat at its centre is FF FA 22 E0, and its dH 00 00 5F 6E; two bytes 01 F4 are 500
+pub record Worked : Type 0 where
+  pub below-zero : inBytes 4 (complement (negℤ (pos 384288))) ≡ 255 ∷ 250 ∷ 34 ∷ 224 ∷ []
+  pub above-zero : inBytes 4 (complement (pos 24430)) ≡ 0 ∷ 0 ∷ 95 ∷ 110 ∷ []
+  pub read-signed : signed (number (255 ∷ 250 ∷ 34 ∷ 224 ∷ [])) ≡ negℤ (pos 384288)
+  pub read-count : number (1 ∷ 244 ∷ []) ≡ 500
+
+pub worked : Worked
+unfolding number inBytes fromPlaces inPlaces complement signed
+worked = record { below-zero = refl; above-zero = refl; read-signed = refl; read-count = refl }
+
+-- ---- 'For a sheet, in the order of its bytes: .. then buffer 7'
+module _ (unit : ℤ) (bytes : List ℕ) (room : ℕ) where
+  -- a sheet is worked exactly where every test holds and there is room, and the result is that of what it says
+  pub worked-where : (result : List ℕ) → (workOf unit bytes room ≡ gives result) ↔ (AllHold (tests unit bytes) × ((6 + count bytes * 13 ≤ room) × (resultOf (said bytes) ≡ result)))
+  worked-where result = works.worked-where unit bytes room result
+
+  -- and is refused exactly with the number of the first test that does not hold, or with 7 where there is no room
+  pub refused-where : (n : ℕ) → (workOf unit bytes room ≡ refused n) ↔ (FirstFails (tests unit bytes) n ⊎ (AllHold (tests unit bytes) × ((room < 6 + count bytes * 13) × (n ≡ 7))))
+  refused-where n = works.refused-where unit bytes room n
+
+  -- 'the sheet's serial is not zero and not the unit's'
+  pub given-8 : (workOf unit bytes room ≡ refused 8) ↔ ((4 ≤ length bytes) × ((serial bytes ≡ 0 → ⊥) × (unit ≡ pos (serial bytes) → ⊥)))
+  given-8 = works.given-8 unit bytes room
+
+  -- 'the lent buffer is too short'
+  pub given-7 : (workOf unit bytes room ≡ refused 7) ↔ (AllHold (tests unit bytes) × (room < 6 + count bytes * 13))
+  given-7 = works.given-7 unit bytes room
+
+  -- no other numbers are given
+  pub given-one-of : (n : ℕ) → workOf unit bytes room ≡ refused n → (n ≡ 1) ⊎ ((n ≡ 9) ⊎ ((n ≡ 8) ⊎ (n ≡ 7)))
+  given-one-of n h = works.given-one-of unit bytes room n h
+
+-- ---- 'a sheet with another unit's serial is refused as such'
+-- it gives 8, and no byte of the lent buffer has changed
+pub foreign : (unit : ℤ) (bytes out : List ℕ) → 4 ≤ length bytes → (serial bytes ≡ 0 → ⊥) → (unit ≡ pos (serial bytes) → ⊥)
+    → (counted (workOf unit bytes (length out)) ≡ refused 8) × (lent (workOf unit bytes (length out)) out ≡ out)
+foreign unit bytes out long some other =
+    let h : workOf unit bytes (length out) ≡ refused 8 = given-8 unit bytes (length out) .1 (long, (some, other)) in
+    (ap counted h, ap (λ (w : Answer (List ℕ)). lent w out) h)
+
+-- what is worked is the unit's own, and has a serial
+pub own : (unit : ℤ) (bytes : List ℕ) (room : ℕ) {result : List ℕ} → workOf unit bytes room ≡ gives result → (unit ≡ pos (serial bytes)) × (serial bytes ≡ 0 → ⊥)
+own unit bytes room {result} h =
+    let held = worked-where unit bytes room result .0 h .0 in
+    (works.is-unit unit (serial bytes) (held .1 .1 .0), eqb-false (serial bytes) 0 (not-true (eqb (serial bytes) 0) (held .1 .0)))
+
+-- a unit whose number is no serial has no sheet: one with a serial gives it 8
+pub no-serial : (unit : ℤ) (bytes : List ℕ) (room : ℕ) → within (pos 1) (pos 4294967295) unit ≡ false → areBytes bytes ≡ true
+    → 4 ≤ length bytes → (serial bytes ≡ 0 → ⊥) → workOf unit bytes room ≡ refused 8
+no-serial unit bytes room other bytes-are long some = given-8 unit bytes room .1 (long, (some, λ same. false≢true (sym other ∙ ap (within (pos 1) (pos 4294967295)) same ∙ is-serial (serial bytes) some (places.serial-below bytes bytes-are long))))
+  where
+    one-up : (s : ℕ) → (s ≡ 0 → ⊥) → 1 ≤ s
+    one-up zero some = absurd (some refl)
+    one-up (suc s) some = omega arith
+
+    is-serial : (s : ℕ) → (s ≡ 0 → ⊥) → s < 4294967296 → within (pos 1) (pos 4294967295) (pos s) ≡ true
+    is-serial s some below = joined (le-leb 1 s (one-up s some)) (le-leb s 4294967295 (omega arith))
+
+-- ---- 'The call says how many bytes it wrote: 6 + 13 times the count'
+module _ (unit : ℤ) (bytes : List ℕ) (room : ℕ) {result : List ℕ} (h : workOf unit bytes room ≡ gives result) where
+  is-result : resultOf (said bytes) ≡ result
+  is-result = worked-where unit bytes room result .0 h .1 .1
+
+  pub bytes-written : length result ≡ 6 + count bytes * 13
+  bytes-written = sym (ap length is-result) ∙ result-long bytes
+
+  -- ---- 'serial, 4; the same count of points, 2'
+  pub same-serial : areBytes bytes ≡ true → part 0 4 result ≡ part 0 4 bytes
+  same-serial bytes-are =
+      let long : 4 ≤ length bytes = leb-true 4 (length bytes) (worked-where unit bytes room result .0 h .0 .0) in
+      sym (ap (part 0 4) is-result) ∙ places.serial-at bytes ∙ places.serial-bytes bytes bytes-are long
+
+  pub same-count : number (part 4 2 result) ≡ count bytes
+  same-count =
+      let most : count bytes ≤ 500 = leb-true (count bytes) 500 (worked-where unit bytes room result .0 h .0 .1 .1 .1 .1 .1 .1 .1 .1 .0) in
+      sym (ap (λ (r : List ℕ). number (part 4 2 r)) is-result) ∙ ap number (places.count-at bytes) ∙ number-back 2 (count bytes) (omega arith)
+
+  -- ---- 'then 13 bytes a point': at each place, the answer for the point at that place of the sheet
+  module _ (k : ℕ) (place : k < count bytes) where
+    abbrev code : ℕ
+    code = pointAt k bytes .code
+
+    abbrev latitude : ℤ
+    latitude = pointAt k bytes .latitude
+
+    abbrev longitude : ℤ
+    longitude = pos (pointAt k bytes .longitude)
+
+    pub record-at : recordAt k result ≡ inRecord (answerAt (pointAt k bytes))
+    record-at = sym (ap (recordAt k) is-result) ∙ places.record-at bytes k place
+
+    pub refusal-at : recordRefusal (recordAt k result) ≡ refusalOf (answerAt (pointAt k bytes))
+    refusal-at = ap recordRefusal record-at ∙ places.point-says (pointAt k bytes) .0
+
+    pub numbers-at : recordNumbers (recordAt k result) ≡ valuesOf (pos 0) (answerAt (pointAt k bytes))
+    numbers-at = ap recordNumbers record-at ∙ places.point-says (pointAt k bytes) .1
+
+    -- a point refused has its number and twelve zero bytes
+    pub refused-at : (n : ℕ) → answerAt (pointAt k bytes) ≡ refused n → recordAt k result ≡ n ∷ replicate 12 0
+    unfolding inRecord inBytes inPlaces complement flatMap
+    refused-at n e = record-at ∙ ap inRecord e
+
+    code-is : isCode (pos code) ≡ true
+    code-is =
+        let held = worked-where unit bytes room result .0 h .0 in
+        places.code-at bytes (held .1 .1 .1 .1 .1 .1 .0) (held .1 .1 .1 .1 .1 .1 .1 .1 .1 .1 .0) k place
+
+    -- 'A point refused with 3 or 6 doesn't refuse the sheet': it is worked, whatever its points' numbers, and gives no other
+    pub points-refused : (recordRefusal (recordAt k result) ≡ 0) ⊎ ((recordRefusal (recordAt k result) ≡ 3) ⊎ (recordRefusal (recordAt k result) ≡ 6))
+    points-refused = go (answerAt (pointAt k bytes)) refl
+      where
+        go : (a : Answer (Family ℤ)) → answerAt (pointAt k bytes) ≡ a → (recordRefusal (recordAt k result) ≡ 0) ⊎ ((recordRefusal (recordAt k result) ≡ 3) ⊎ (recordRefusal (recordAt k result) ≡ 6))
+        go (gives values) e = inl (refusal-at ∙ ap refusalOf e)
+        go (refused n) e =
+            let is-n : recordRefusal (recordAt k result) ≡ n = refusal-at ∙ ap refusalOf e in
+            ⊎-elim (λ four. absurd (false≢true (sym (datum.given-4 isEither (pos code) latitude longitude .0 (e ∙ ap refused four)) ∙ code-is)))
+            (⊎-elim (λ five. absurd (datum.answer-never-5 (pos code) latitude longitude (e ∙ ap refused five)))
+            (⊎-elim (λ three. inr (inl (is-n ∙ three))) (λ six. inr (inr (is-n ∙ six)))))
+            (datum.given-one-of isEither (pos code) latitude longitude n e)
+
+    -- ---- demand 3: where the record's first byte is 0, its numbers are within 2, 2 and 1 units of the exact values
+    pub near-at : recordRefusal (recordAt k result) ≡ 0
+        → (values : Family ℤ) × ((recordNumbers (recordAt k result) ≡ valuesOf (pos 0) (gives values))
+        × AllWithin 1 (demanded values) (exact (pageOf (pos code)) latitude longitude) values)
+    near-at first = go (answerAt (pointAt k bytes)) refl
+      where
+        go : (a : Answer (Family ℤ)) → answerAt (pointAt k bytes) ≡ a → (values : Family ℤ) × ((recordNumbers (recordAt k result) ≡ valuesOf (pos 0) (gives values)) × AllWithin 1 (demanded values) (exact (pageOf (pos code)) latitude longitude) values)
+        go (gives values) e = (values, (numbers-at ∙ ap (valuesOf (pos 0)) e, datum.as-demanded isEither (pos code) latitude longitude e))
+        go (refused n) e =
+            let none : n ≡ 0 = sym (ap refusalOf e) ∙ sym refusal-at ∙ first in
+            absurd (⊎-elim (λ e. omega arith) (⊎-elim (λ e. omega arith) (⊎-elim (λ e. omega arith) (λ e. omega arith))) (datum.given-one-of isEither (pos code) latitude longitude n e))
