@@ -9,7 +9,7 @@ use native.Mathlib.Omega.{arith}
 use lib.Dec.{T, eqb, leb, ltb}
 use lib.ListN.{length, getD, set, take, drop, length-set, drop-of-length-le}
 use lib.Seq.{drop-cons, take-suc, take-all, ext-getD, getD-set-same, getD-set-other}
-use borrow.Author.Tests.{ne-eqb, eqb-true, eqb-false, ltb-true, leb-true, leb-false, le-leb, lt-leb, not-true, not-false}
+use borrow.Author.Tests.{eq-eqb, ne-eqb, eqb-true, eqb-false, ltb-true, leb-true, leb-false, le-leb, lt-leb, not-true, not-false}
 use Rattle.whole.proofs.Bools.{both, either}
 use Rattle.kinds.proofs.Bytes.{at}
 use Rattle.sheet.specs.Sheet.{rise, isListed}
@@ -34,12 +34,31 @@ module _ (before i : ℕ) (codes : List ℕ) where
   unfolding rise
   rise-ends h = sym (ap (rise before) (drop-of-length-le codes h))
 
--- what rises is 1 to 6
-pub six : (before : ℕ) (codes : List ℕ) → rise before codes ≡ true → (i : ℕ) → i < length codes → at codes i ≤ 6
+-- what the first says
+rise-first : (before code : ℕ) (rest : List ℕ) → rise before (code ∷ rest) ≡ true → (before < code) × ((code ≤ 6) × (rise code rest ≡ true))
 unfolding rise
+rise-first before code rest h =
+    let r = both (ltb before code && leb code 6) (rise code rest) h in
+    let c = both (ltb before code) (leb code 6) (r .0) in
+    (ltb-true before code (c .0), (leb-true code 6 (c .1), r .1))
+
+-- what rises is above what was before, up to 6
+pub six : (before : ℕ) (codes : List ℕ) → rise before codes ≡ true → (i : ℕ) → i < length codes → (before < at codes i) × (at codes i ≤ 6)
 six before [] h i k = absurd (omega arith)
-six before (code ∷ rest) h zero k = leb-true code 6 (both (ltb before code) (leb code 6) (both (ltb before code && leb code 6) (rise code rest) h .0) .1)
-six before (code ∷ rest) h (suc i) k = six code rest (both (ltb before code && leb code 6) (rise code rest) h .1) i (omega arith)
+six before (code ∷ rest) h zero k =
+    let r = rise-first before code rest h in
+    (r .0, r .1 .0)
+six before (code ∷ rest) h (suc i) k =
+    let r = rise-first before code rest h in
+    let s = six code rest (r .1 .1) i (omega arith) in
+    (omega (arith, r .0, s .0), s .1)
+
+-- and each above those before it
+pub risen : (before : ℕ) (codes : List ℕ) → rise before codes ≡ true → (i j : ℕ) → i < j → j < length codes → at codes i < at codes j
+risen before [] h i j k more = absurd (omega arith)
+risen before (code ∷ rest) h i zero k more = absurd (omega arith)
+risen before (code ∷ rest) h zero (suc j) k more = six code rest (rise-first before code rest h .1 .1) j (omega arith) .0
+risen before (code ∷ rest) h (suc i) (suc j) k more = risen code rest (rise-first before code rest h .1 .1) i j (omega arith) (omega arith)
 
 -- ---- what is listed
 pub listed-more : (codes : List ℕ) (c k : ℕ) → isListed (codes ++ c ∷ []) k ≡ (isListed codes k || eqb c k)
@@ -47,22 +66,28 @@ unfolding isListed
 listed-more [] c k = or-false (eqb c k)
 listed-more (x ∷ codes) c k = ap (λ (b : Bool). eqb x k || b) (listed-more codes c k) ∙ sym (or-assoc (eqb x k) (isListed codes k) (eqb c k))
 
+-- it stands somewhere among them, and what stands among them is listed
+pub listed-at : (codes : List ℕ) (p : ℕ) → isListed codes p ≡ true → (i : ℕ) × ((i < length codes) × (at codes i ≡ p))
+unfolding isListed
+listed-at [] p h = absurd (false≢true h)
+listed-at (code ∷ rest) p h =
+    either (eqb code p) (isListed rest p) h (λ e. (0, (omega arith, eqb-true code p e)))
+    (λ e.
+        let there = listed-at rest p e in
+        (suc (there .0), (omega (arith, there .1 .0), there .1 .1)))
+
+pub at-listed : (codes : List ℕ) (i : ℕ) → i < length codes → isListed codes (at codes i) ≡ true
+unfolding isListed
+at-listed [] i h = absurd (omega arith)
+at-listed (code ∷ rest) zero h = ap (λ (b : Bool). b || isListed rest code) (eq-eqb code code refl)
+at-listed (code ∷ rest) (suc i) h = ap (λ (b : Bool). eqb code (at rest i) || b) (at-listed rest i (omega arith)) ∙ or-true (eqb code (at rest i))
+
 -- of codes that rise, what is listed is 1 to 6
 pub listed-six : (before : ℕ) (codes : List ℕ) → rise before codes ≡ true → (p : ℕ) → isListed codes p ≡ true → (before < p) × (p ≤ 6)
-unfolding rise isListed
-listed-six before [] h p k = absurd (false≢true k)
-listed-six before (code ∷ rest) h p k =
-    let r = both (ltb before code && leb code 6) (rise code rest) h in
-    let c = both (ltb before code) (leb code 6) (r .0) in
-    let above : before < code = ltb-true before code (c .0) in
-    let low : code ≤ 6 = leb-true code 6 (c .1) in
-    either (eqb code p) (isListed rest p) k
-    (λ e.
-        let same : code ≡ p = eqb-true code p e in
-        (omega arith, omega arith))
-    (λ e.
-        let q = listed-six code rest (r .1) p e in
-        (omega (arith, above, q .0), q .1))
+listed-six before codes h p k =
+    let there = listed-at codes p k in
+    let s = six before codes h (there .0) (there .1 .0) in
+    (omega (arith, s .0, there .1 .1), omega (arith, s .1, there .1 .1))
 
 -- ---- the flags
 flags-length : (n from : ℕ) (codes : List ℕ) → length (flagsFrom n from codes) ≡ n
@@ -108,16 +133,15 @@ flag-set codes c h = ext-getD false (set (flags codes) c true) (flags (codes ++ 
 
 -- the flags of the first i codes, and one more
 pub flag-next : (codes : List ℕ) (i : ℕ) → rise 0 codes ≡ true → i < length codes → set (flags (take i codes)) (at codes i) true ≡ flags (take (i + 1) codes)
-flag-next codes i h k = flag-set (take i codes) (at codes i) (omega (arith, six 0 codes h i k)) ∙ ap flags (sym (ap (λ (n : ℕ). take n codes) (add-one i) ∙ take-suc codes i 0 k))
+flag-next codes i h k = flag-set (take i codes) (at codes i) (omega (arith, six 0 codes h i k .1)) ∙ ap flags (sym (ap (λ (n : ℕ). take n codes) (add-one i) ∙ take-suc codes i 0 k))
 
 -- ---- looked up
 beyond : (before : ℕ) (codes : List ℕ) → rise before codes ≡ true → (p : ℕ) → 6 < p → isListed codes p ≡ false
-unfolding rise isListed
+unfolding isListed
 beyond before [] h p k = refl
 beyond before (code ∷ rest) h p k =
-    let r = both (ltb before code && leb code 6) (rise code rest) h in
-    let low : code ≤ 6 = leb-true code 6 (both (ltb before code) (leb code 6) (r .0) .1) in
-    (λ i. ne-eqb code p (λ e. omega arith) i || isListed rest p) ∙ beyond code rest (r .1) p k
+    let r = rise-first before code rest h in
+    (λ i. ne-eqb code p (λ e. omega (arith, r .1 .0, k, e)) i || isListed rest p) ∙ beyond code rest (r .1 .1) p k
 
 -- the two answers of the code
 module _ (flags : List Bool) (code : ℕ) where

@@ -7,7 +7,7 @@ use Prim.Native.Nat.{ℕ, zero, suc, _+_, _*_, _<_, _≤_, _^_}
 use native.Mathlib.Omega.{arith}
 use lib.Dec.{eqb, leb}
 use lib.IntN.{ℤ, pos, negℤ}
-use lib.ListN.{length, drop, replicate}
+use lib.ListN.{length, getD, replicate}
 use borrow.Author.Tests.{leb-true, le-leb, eqb-false, ne-eqb, not-true, not-false}
 use Rattle.whole.specs.Places.{fromPlaces, inPlaces}
 use Rattle.whole.proofs.Bools.{joined}
@@ -20,11 +20,12 @@ use Rattle.datum.specs.Point.{isCode, pageOf, valuesOf}
 use Rattle.datum.specs.Exact.{exact, AllWithin, demanded}
 use Rattle.datum.proofs.Demands as datum
 use Rattle.sheet.specs.Numbers.{number, inBytes, complement, signed}
-use Rattle.sheet.specs.Sheet.{Sheet, serial, datums, count, points, isUnit, tests, said, sheetOf}
+use Rattle.sheet.specs.Sheet.{serial, datums, codes, count, body, point, points, pieces, isUnit, rise, isListed, tests, said}
 use Rattle.sheet.specs.Result.{inRecord, answerAt, resultOf, workOf}
 use Rattle.sheet.specs.Places.{pointAt, recordAt, recordRefusal, recordNumbers}
 use Rattle.sheet.specs.Form.{sheetBytes, isSheet, areBytes}
 use Rattle.sheet.proofs.Numbers as numbers
+use Rattle.sheet.proofs.Codes.{six, risen, listed-at, at-listed}
 use Rattle.sheet.proofs.Calls.{result-long}
 use Rattle.sheet.proofs.Works as works
 use Rattle.sheet.proofs.Places as places
@@ -76,6 +77,48 @@ module _ (unit : ℤ) (bytes : List ℕ) (room : ℕ) where
   -- no other numbers are given
   pub given-one-of : (n : ℕ) → workOf unit bytes room ≡ refused n → (n ≡ 1) ⊎ ((n ≡ 9) ⊎ ((n ≡ 8) ⊎ (n ≡ 7)))
   given-one-of n h = works.given-one-of unit bytes room n h
+
+-- where two are due, the first in the order of the bytes; the last is a sheet of 7 bytes, with no datums and no points
+pub record Orders : Type 0 where
+  pub cut-and-zero : workOf (pos 1) (0 ∷ 0 ∷ 0 ∷ []) 0 ≡ refused 1
+  pub zero-and-foreign : workOf (pos 1) (0 ∷ 0 ∷ 0 ∷ 0 ∷ []) 0 ≡ refused 9
+  pub foreign-and-cut : workOf (pos 1) (0 ∷ 0 ∷ 0 ∷ 2 ∷ []) 0 ≡ refused 8
+  pub over-and-cut : workOf (pos 1) (0 ∷ 0 ∷ 0 ∷ 1 ∷ 7 ∷ []) 0 ≡ refused 9
+  pub cut-and-wrong : workOf (pos 1) (0 ∷ 0 ∷ 0 ∷ 1 ∷ 2 ∷ 7 ∷ []) 0 ≡ refused 1
+  pub wrong-and-cut : workOf (pos 1) (0 ∷ 0 ∷ 0 ∷ 1 ∷ 1 ∷ 7 ∷ 1 ∷ []) 0 ≡ refused 9
+  pub over-and-length : workOf (pos 1) (0 ∷ 0 ∷ 0 ∷ 1 ∷ 0 ∷ 1 ∷ 245 ∷ []) 0 ≡ refused 9
+  pub length-and-unlisted : workOf (pos 1) (0 ∷ 0 ∷ 0 ∷ 1 ∷ 0 ∷ 0 ∷ 1 ∷ 1 ∷ []) 0 ≡ refused 1
+  pub unlisted-and-room : workOf (pos 1) (0 ∷ 0 ∷ 0 ∷ 1 ∷ 0 ∷ 0 ∷ 1 ∷ 1 ∷ 0 ∷ 0 ∷ 0 ∷ 0 ∷ 0 ∷ 0 ∷ 0 ∷ 0 ∷ []) 0 ≡ refused 9
+  pub room : workOf (pos 1) (0 ∷ 0 ∷ 0 ∷ 1 ∷ 0 ∷ 0 ∷ 0 ∷ []) 5 ≡ refused 7
+  pub accepted : workOf (pos 1) (0 ∷ 0 ∷ 0 ∷ 1 ∷ 0 ∷ 0 ∷ 0 ∷ []) 6 ≡ gives (0 ∷ 0 ∷ 0 ∷ 1 ∷ 0 ∷ 0 ∷ [])
+
+pub orders : Orders
+unfolding number inBytes fromPlaces inPlaces serial datums codes count body point points pieces isUnit rise isListed resultOf flatMap
+orders = record {
+  cut-and-zero = refl;
+  zero-and-foreign = refl;
+  foreign-and-cut = refl;
+  over-and-cut = refl;
+  cut-and-wrong = refl;
+  wrong-and-cut = refl;
+  over-and-length = refl;
+  length-and-unlisted = refl;
+  unlisted-and-room = refl;
+  room = refl;
+  accepted = refl;
+}
+
+-- ---- 'that many codes, strictly rising', 'a point's code is not listed'
+-- codes that pass are 1 to 6, and each is above those before it
+pub codes-are : (codes : List ℕ) → rise 0 codes ≡ true → (i : ℕ) → i < length codes → (1 ≤ getD codes i 0) × (getD codes i 0 ≤ 6)
+codes-are codes h i more = six 0 codes h i more
+
+pub codes-rise : (codes : List ℕ) → rise 0 codes ≡ true → (i j : ℕ) → i < j → j < length codes → getD codes i 0 < getD codes j 0
+codes-rise codes h i j k more = risen 0 codes h i j k more
+
+-- a code is listed exactly where it stands among them
+pub listed-where : (listed : List ℕ) (code : ℕ) → (isListed listed code ≡ true) ↔ ((i : ℕ) × ((i < length listed) × (getD listed i 0 ≡ code)))
+listed-where listed code = ((λ h. listed-at listed code h), (λ there. subst (λ (c : ℕ). isListed listed c ≡ true) (there .1 .1) (at-listed listed (there .0) (there .1 .0))))
 
 -- ---- 'a sheet with another unit's serial is refused as such'
 -- it gives 8, and no byte of the lent buffer has changed

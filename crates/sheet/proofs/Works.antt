@@ -56,8 +56,8 @@ module _ (unit : ℤ) (t : List ℕ) (room : ℕ) where
     (λ h.
         ⊎-elim inl
         (λ p.
-            let q = failed (leb (length (resultOf (said t))) room) 7 (resultOf (said t)) (p .1) in
-            inr (p .0, (omega (arith, leb-false (length (resultOf (said t))) room (q .0), result-long t), q .1)))
+        let q = failed (leb (length (resultOf (said t))) room) 7 (resultOf (said t)) (p .1) in
+        inr (p .0, (omega (arith, leb-false (length (resultOf (said t))) room (q .0), result-long t), q .1)))
         (first-or-behind (tests unit t) last n (sym work-tests ∙ h))),
     (λ h.
         work-tests
@@ -77,8 +77,8 @@ module _ (unit : ℤ) (t : List ℕ) (room : ℕ) where
   given-one-of n h =
       ⊎-elim
       (λ f.
-          either (eqb n 1) (eqb n 9 || eqb n 8) (first-number (λ m. eqb m 1 || (eqb m 9 || eqb m 8)) (tests unit t) n refl f) (λ e. inl (eqb-true n 1 e))
-          (λ e. inr (either (eqb n 9) (eqb n 8) e (λ e. inl (eqb-true n 9 e)) (λ e. inr (inl (eqb-true n 8 e))))))
+      either (eqb n 1) (eqb n 9 || eqb n 8) (first-number (λ m. eqb m 1 || (eqb m 9 || eqb m 8)) (tests unit t) n refl f) (λ e. inl (eqb-true n 1 e))
+      (λ e. inr (either (eqb n 9) (eqb n 8) e (λ e. inl (eqb-true n 9 e)) (λ e. inr (inl (eqb-true n 8 e))))))
       (λ p. inr (inr (inr (p .1 .1))))
       (refused-where n .0 h)
 

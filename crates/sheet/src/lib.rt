@@ -257,13 +257,13 @@ fn finished(layout: Layout, sheet: &[u8], result: &mut [u8]) -> WrittenAnswer
     ensures { λ r. ⌜ now (result .exit) ≡ lent (finished (now (sheet .entry)) (length (now (result .entry)))) (now (result .entry)) ⌝ }
 {
     let points = layout.points;
+    let bytes = HEAD + points * RECORD;
     let counted = CODES + layout.datums;
-    let listed = listed(&sheet[CODES..counted]);
     let body = &sheet[counted + COUNT..];
-    if !all_listed(body, points, listed) {
+    let all = all_listed(body, points, listed(&sheet[CODES..counted]));
+    if !all {
         return WrittenAnswer::Refused(Refusal::Sheet);
     }
-    let bytes = HEAD + points * RECORD;
     if result.len() < bytes {
         return WrittenAnswer::Refused(Refusal::Room);
     }

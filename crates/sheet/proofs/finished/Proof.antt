@@ -5,8 +5,26 @@ use Rattle.sheet.proofs.Calls.{codes-end, body-start, five-more, seven-
 use Rattle.sheet.proofs.finished.Statement.{statement}
 use Rattle.sheet.proofs.finished.Tie as tie
 
+mul-bytes : tie.Need-mul-bytes
+mul-bytes c = records-fit _ (laid _ _ (c .before .before .pre))
+
+add-bytes : tie.Need-add-bytes
+add-bytes c = result-fits _ (laid _ _ (c .before .before .pre))
+
 add-counted : tie.Need-add-counted
 add-counted c = five-more _ (laid _ _ (c .before .before .before .pre))
+
+add-body : tie.Need-add-body
+add-body c = seven-more _ (laid _ _ (c .before .before .before .pre))
+
+sub-body : tie.Need-sub-body
+sub-body c = body-start _ (laid _ _ (c .before .before .before .pre))
+
+part-body-start : tie.Need-part-body-start
+part-body-start c = body-start _ (laid _ _ (c .before .before .before .pre))
+
+part-body-end : tie.Need-part-body-end
+part-body-end c = search needs
 
 sub-listed : tie.Need-sub-listed
 sub-listed c = search needs
@@ -15,37 +33,19 @@ part-listed-start : tie.Need-part-listed-start
 part-listed-start c = search needs
 
 part-listed-end : tie.Need-part-listed-end
-part-listed-end c = codes-end _ (laid _ _ (c .before .before .before .pre))
+part-listed-end c = codes-end _ (laid _ _ (c .before .before .before .before .pre))
 
 listed-requires : tie.Need-listed-requires
-listed-requires c κs = codes-lent _ (laid _ _ (c .before .before .before .before .pre))
-
-add-body : tie.Need-add-body
-add-body c = seven-more _ (laid _ _ (c .before .before .before .before .before .pre))
-
-sub-body : tie.Need-sub-body
-sub-body c = body-start _ (laid _ _ (c .before .before .before .before .before .pre))
-
-part-body-start : tie.Need-part-body-start
-part-body-start c = body-start _ (laid _ _ (c .before .before .before .before .before .pre))
-
-part-body-end : tie.Need-part-body-end
-part-body-end c = search needs
+listed-requires c κs = codes-lent _ (laid _ _ (c .before .before .before .before .before .pre))
 
 all-listed-requires : tie.Need-all-listed-requires
 all-listed-requires c κs = body-lent _ (laid _ _ (c .before .before .before .before .before .before .pre))
 
 returns : tie.Need-returns
-returns c = unlisted _ (laid _ _ (c .before .before .before .before .before .before .before .before .pre)) (c .before .before .before .listed .ensures) (c .before .all-listed .ensures) _ (c .if1 .taken)
-
-mul-bytes : tie.Need-mul-bytes
-mul-bytes c = records-fit _ (laid _ _ (c .before .before .before .before .before .before .before .before .pre))
-
-add-bytes : tie.Need-add-bytes
-add-bytes c = result-fits _ (laid _ _ (c .before .before .before .before .before .before .before .before .pre))
+returns c = unlisted _ (laid _ _ (c .before .before .before .before .before .before .before .before .pre)) (c .before .before .listed .ensures) (c .before .all-listed .ensures) _ (c .if1 .taken)
 
 returns-2 : tie.Need-returns-2
-returns-2 c = no-room _ (laid _ _ (c .before .before .before .before .before .before .before .before .before .pre)) (c .before .before .before .before .listed .ensures) (c .before .before .all-listed .ensures) _ (c .before .if1 .left) (c .if2 .taken)
+returns-2 c = no-room _ (laid _ _ (c .before .before .before .before .before .before .before .before .before .pre)) (c .before .before .before .listed .ensures) (c .before .before .all-listed .ensures) _ (c .before .if1 .left) (c .if2 .taken)
 
 four-requires : tie.Need-four-requires
 four-requires c κs = serial-there _ (laid _ _ (c .before .before .before .before .before .before .before .before .before .pre))
@@ -61,25 +61,25 @@ same-length c = search needs
 returns-3 : tie.Need-returns-3
 returns-3 c =
     let told = laid _ _ (c .before .before .before .before .before .before .before .before .before .before .before .before .before .before .pre) in
-    all-written _ told (c .before .before .before .before .before .before .before .before .before .listed .ensures) (c .before .before .before .before .before .before .before .all-listed .ensures) _ (c .before .before .before .before .before .before .if1 .left) (c .before .before .before .before .before .if2 .left) (serial-is _ (c .before .before .before .before .four .ensures)) (c .before .before .put .ensures)
+    all-written _ told (c .before .before .before .before .before .before .before .before .listed .ensures) (c .before .before .before .before .before .before .before .all-listed .ensures) _ (c .before .before .before .before .before .before .if1 .left) (c .before .before .before .before .before .if2 .left) (serial-is _ (c .before .before .before .before .four .ensures)) (c .before .before .put .ensures)
 
 pub finished-spec : {M : Type 1} → statement M
 finished-spec =
     tie.close
     (tie.spec
+    mul-bytes
+    add-bytes
     add-counted
-    sub-listed
-    part-listed-start
-    part-listed-end
-    listed-requires
     add-body
     sub-body
     part-body-start
     part-body-end
+    sub-listed
+    part-listed-start
+    part-listed-end
+    listed-requires
     all-listed-requires
     returns
-    mul-bytes
-    add-bytes
     returns-2
     four-requires
     put-requires

@@ -25,10 +25,10 @@ shared-slice-read-flags : tie.Need-shared-slice-read-flags Inv-loop μ-loop
 shared-slice-read-flags c = search needs
 
 cast-flags : tie.Need-cast-flags Inv-loop μ-loop
-cast-flags c = record { fits = omega (arith, six 0 _ (c .before .before .before .pre) _ (c .before .loop-test .taken)) }
+cast-flags c = record { fits = omega (arith, six 0 _ (c .before .before .before .pre) _ (c .before .loop-test .taken) .1) }
 
 array-write-flags : tie.Need-array-write-flags Inv-loop μ-loop
-array-write-flags c = omega (arith, six 0 _ (c .before .before .before .pre) _ (c .before .loop-test .taken))
+array-write-flags c = omega (arith, six 0 _ (c .before .before .before .pre) _ (c .before .loop-test .taken) .1)
 
 add-i : tie.Need-add-i Inv-loop μ-loop
 add-i c = search needs
