@@ -15,7 +15,7 @@ use Rattle.kinds.specs.Answer.{Answer, gives, refused, AllHold, FirstFails, ref
 use Rattle.kinds.specs.Kinds.{within, isFourBytes}
 use Rattle.kinds.specs.Bytes.{part}
 use Rattle.kinds.proofs.Tested.{of-four-bytes}
-use Rattle.datum.specs.Page.{Family, isEither}
+use Rattle.datum.specs.Page.{Family, shift, geoid, isEither}
 use Rattle.datum.specs.Point.{isCode, pageOf, valuesOf}
 use Rattle.datum.specs.Exact.{exact, AllWithin, demanded}
 use Rattle.datum.proofs.Demands as datum
@@ -45,16 +45,28 @@ signed-back x h = numbers.signed-back x (of-four-bytes x h)
 pub complement-back : (n : ℕ) → n < 4294967296 → complement (signed n) ≡ n
 complement-back n h = numbers.complement-back n h
 
--- the first byte counts most: code 1's dLat at its centre is FF FA 22 E0, and its dH 00 00 5F 6E; two bytes 01 F4 are 500
+-- the first byte counts most: code 1's dLat at its centre is FF FA 22 E0, and its dH 00 00 5F 6E; two bytes 01 F4 are 500;
+-- then the records of code 1's centre, of code 6's, and of a point outside its area
 pub record Worked : Type 0 where
   pub below-zero : inBytes 4 (complement (negℤ (pos 384288))) ≡ 255 ∷ 250 ∷ 34 ∷ 224 ∷ []
   pub above-zero : inBytes 4 (complement (pos 24430)) ≡ 0 ∷ 0 ∷ 95 ∷ 110 ∷ []
   pub read-signed : signed (number (255 ∷ 250 ∷ 34 ∷ 224 ∷ [])) ≡ negℤ (pos 384288)
   pub read-count : number (1 ∷ 244 ∷ []) ≡ 500
+  pub shifts : inRecord (gives (shift (negℤ (pos 384288)) (negℤ (pos 110294)) (pos 24430))) ≡ 0 ∷ 255 ∷ 250 ∷ 34 ∷ 224 ∷ 255 ∷ 254 ∷ 81 ∷ 42 ∷ 0 ∷ 0 ∷ 95 ∷ 110 ∷ []
+  pub height : inRecord (gives (geoid (pos 7464))) ≡ 0 ∷ 0 ∷ 0 ∷ 29 ∷ 40 ∷ 0 ∷ 0 ∷ 0 ∷ 0 ∷ 0 ∷ 0 ∷ 0 ∷ 0 ∷ []
+  pub refusal : inRecord (refused 6) ≡ 6 ∷ replicate 12 0
 
 pub worked : Worked
-unfolding number inBytes fromPlaces inPlaces complement signed
-worked = record { below-zero = refl; above-zero = refl; read-signed = refl; read-count = refl }
+unfolding number inBytes fromPlaces inPlaces complement signed inRecord flatMap
+worked = record {
+  below-zero = refl;
+  above-zero = refl;
+  read-signed = refl;
+  read-count = refl;
+  shifts = refl;
+  height = refl;
+  refusal = refl;
+}
 
 -- ---- 'For a sheet, in the order of its bytes: .. then buffer 7'
 module _ (unit : ℤ) (bytes : List ℕ) (room : ℕ) where
@@ -78,7 +90,8 @@ module _ (unit : ℤ) (bytes : List ℕ) (room : ℕ) where
   pub given-one-of : (n : ℕ) → workOf unit bytes room ≡ refused n → (n ≡ 1) ⊎ ((n ≡ 9) ⊎ ((n ≡ 8) ⊎ (n ≡ 7)))
   given-one-of n h = works.given-one-of unit bytes room n h
 
--- where two are due, the first in the order of the bytes; the last is a sheet of 7 bytes, with no datums and no points
+-- where two are due, the first in the order of the bytes; then a code listed twice, a byte that follows, a lent buffer too
+-- short, and a sheet of 7 bytes, with no datums and no points, accepted
 pub record Orders : Type 0 where
   pub cut-and-zero : workOf (pos 1) (0 ∷ 0 ∷ 0 ∷ []) 0 ≡ refused 1
   pub zero-and-foreign : workOf (pos 1) (0 ∷ 0 ∷ 0 ∷ 0 ∷ []) 0 ≡ refused 9
@@ -89,6 +102,8 @@ pub record Orders : Type 0 where
   pub over-and-length : workOf (pos 1) (0 ∷ 0 ∷ 0 ∷ 1 ∷ 0 ∷ 1 ∷ 245 ∷ []) 0 ≡ refused 9
   pub length-and-unlisted : workOf (pos 1) (0 ∷ 0 ∷ 0 ∷ 1 ∷ 0 ∷ 0 ∷ 1 ∷ 1 ∷ []) 0 ≡ refused 1
   pub unlisted-and-room : workOf (pos 1) (0 ∷ 0 ∷ 0 ∷ 1 ∷ 0 ∷ 0 ∷ 1 ∷ 1 ∷ 0 ∷ 0 ∷ 0 ∷ 0 ∷ 0 ∷ 0 ∷ 0 ∷ 0 ∷ []) 0 ≡ refused 9
+  pub repeated : workOf (pos 1) (0 ∷ 0 ∷ 0 ∷ 1 ∷ 2 ∷ 3 ∷ 3 ∷ 0 ∷ 0 ∷ []) 6 ≡ refused 9
+  pub followed : workOf (pos 1) (0 ∷ 0 ∷ 0 ∷ 1 ∷ 0 ∷ 0 ∷ 0 ∷ 0 ∷ []) 6 ≡ refused 1
   pub room : workOf (pos 1) (0 ∷ 0 ∷ 0 ∷ 1 ∷ 0 ∷ 0 ∷ 0 ∷ []) 5 ≡ refused 7
   pub accepted : workOf (pos 1) (0 ∷ 0 ∷ 0 ∷ 1 ∷ 0 ∷ 0 ∷ 0 ∷ []) 6 ≡ gives (0 ∷ 0 ∷ 0 ∷ 1 ∷ 0 ∷ 0 ∷ [])
 
@@ -104,6 +119,8 @@ orders = record {
   over-and-length = refl;
   length-and-unlisted = refl;
   unlisted-and-room = refl;
+  repeated = refl;
+  followed = refl;
   room = refl;
   accepted = refl;
 }
