@@ -3,7 +3,7 @@
 pub mod Answers
 -- a raw number that was tested by `within`
 pub mod Tested
--- a part of a list of bytes, byte by byte
+-- a part of a list of bytes: how long it is, and byte by byte
 pub mod Bytes
 -- a local position converted by its shift
 pub mod Conversion

@@ -8,13 +8,13 @@ use native.Mathlib.Omega.{arith}
 use lib.Dec.{eqb, leb, ltb}
 use lib.IntN.{ℤ, pos, negsuc, natAbs}
 use lib.Signed.{leZ}
-use lib.ListN.{length, drop, length-drop}
-use lib.Seq.{length-take-le}
+use lib.ListN.{length}
 use borrow.Author.Tests.{eq-eqb, ne-eqb, eqb-true, lt-ltb, leb-true, ltb-true}
 use Rattle.whole.proofs.Bools.{both, either}
 use Rattle.kinds.specs.Answer.{gives}
 use Rattle.kinds.proofs.Answers.{passed, same-value}
 use Rattle.kinds.specs.Bytes.{part}
+use Rattle.kinds.proofs.Bytes.{length-part}
 use Rattle.position.specs.Text.{Coordinate, latitude, longitude, letterN, letterS, letterE, fullStop, places, textLength, inRange, isLetter, letterOf, formed, ms, digits, number, allDigits, degrees, minutes, seconds, point, thousandths, letter, isAngle, inSixties, angle, signed, noZeroSouth, rightKinds, value, rightRanges, read, spelled, text}
 use Rattle.position.proofs.Bytes.{by-bytes}
 use Rattle.position.proofs.Digits.{all-digits, number-of, digits-of, number-below}
@@ -110,9 +110,6 @@ are-digits k t h =
     let three = both (allDigits (degrees k t) && allDigits (minutes k t)) (allDigits (seconds k t)) (two .0) in
     let four = both (allDigits (degrees k t)) (allDigits (minutes k t)) (three .0) in
     record { of-degrees = four .0; of-minutes = four .1; of-seconds = three .1; of-point = two .1; of-thousandths = one .1 }
-
-length-part : (from n : ℕ) (t : List ℕ) → from + n ≤ length t → length (part from n t) ≡ n
-length-part from n t h = length-take-le n (drop from t) (simp length-drop (omega arith))
 
 digits-part : (from n : ℕ) (t : List ℕ) → from + n ≤ length t → allDigits (part from n t) ≡ true → digits n (number (part from n t)) ≡ part from n t
 digits-part from n t h d = ap (λ (w : ℕ). digits w (number (part from n t))) (sym (length-part from n t h)) ∙ digits-of (part from n t) d

@@ -13,6 +13,8 @@ pub mod Results
 pub mod Calls
 -- when a sheet is worked, and when each refusal is given
 pub mod Works
+-- there and back: a sheet as it is made, and as it is read
+pub mod Form
 -- what stands at each place of a result, and what is read there
 pub mod Places
 -- what document 01 asks of the sheet and its result
