@@ -20,10 +20,10 @@ use Rattle.kinds.specs.Kinds.{isFourBytes}
 use Rattle.kinds.proofs.Answers.{all-held, held, same-value}
 use Rattle.kinds.proofs.Bytes.{length-part}
 use Rattle.kinds.proofs.Tested.{of-four-bytes, in-four-bytes}
-use Rattle.sheet.specs.Numbers.{number, inBytes, complement, signed}
+use Rattle.sheet.specs.Numbers.{number, inBytes, signed}
 use Rattle.sheet.specs.Sheet.{Point, Sheet, serial, datums, codes, count, body, point, pieces, points, isUnit, rise, isListed, tests, said, sheetOf}
 use Rattle.sheet.specs.Form.{pointBytes, sheetBytes, isPoint, isSheet, areBytes}
-use Rattle.sheet.proofs.Numbers.{number-back, bytes-back, number-below, signed-back, complement-below, complement-back, signed-fits}
+use Rattle.sheet.proofs.Numbers.{number-back, bytes-back, number-below, value-back, complement-back, signed-fits}
 use Rattle.sheet.proofs.Codes.{listed-six}
 use Rattle.sheet.proofs.Calls.{points-counted}
 use Rattle.sheet.proofs.Works.{is-unit}
@@ -56,10 +56,10 @@ module _ (from n : ℕ) (t : List ℕ) (there : from + n ≤ length t) (bytes : 
   in-part : areBytes (part from n t) ≡ true
   in-part = every-cut (λ byte. ltb byte 256) n (drop from t) (every-cut (λ byte. ltb byte 256) from t bytes .1) .0
 
-  part-back : inBytes n (number (part from n t)) ≡ part from n t
+  pub part-back : inBytes n (number (part from n t)) ≡ part from n t
   part-back = subst (λ (w : ℕ). inBytes w (number (part from n t)) ≡ part from n t) (length-part from n t there) (bytes-back (part from n t) in-part)
 
-  part-below : number (part from n t) < 256 ^ n
+  pub part-below : number (part from n t) < 256 ^ n
   part-below = subst (λ (w : ℕ). number (part from n t) < 256 ^ w) (length-part from n t there) (number-below (part from n t) in-part)
 
 -- ---- points as they are made
@@ -79,8 +79,7 @@ module _ (listed : List ℕ) (risen : rise 0 listed ≡ true) where
   point-made p h =
       let (is, fits, below) = point-has listed p h in
       let code-is = number-back 1 (p .code) (omega (arith, listed-six 0 listed risen (p .code) is .1)) in
-      let latitude-is = ap signed (number-back 4 (complement (p .latitude)) (complement-below (p .latitude) fits)) ∙ signed-back (p .latitude) fits in
-      λ i. record { code = code-is i; latitude = latitude-is i; longitude = number-back 4 (p .longitude) below i }
+      λ i. record { code = code-is i; latitude = value-back (p .latitude) fits i; longitude = number-back 4 (p .longitude) below i }
 
   points-made : (ps : List Point) → every (λ p. isPoint listed p) ps ≡ true → map point (pieces (length ps) 9 (flatMap pointBytes ps)) ≡ ps
   unfolding pieces flatMap

@@ -153,6 +153,10 @@ unfolding complement
 complement-below (pos n) f = omega (arith, f .sfits)
 complement-below (negsuc n) f = omega arith
 
+-- written and read
+pub value-back : (x : ℤ) → SFits w32 x → signed (number (inBytes 4 (complement x))) ≡ x
+value-back x f = ap signed (number-back 4 (complement x) (complement-below x f)) ∙ signed-back x f
+
 module _ (n : ℕ) (h : n < 4294967296) where
   by-half : (P : ℤ → Type 0) → (n < 2147483648 → P (pos n)) → (2147483648 ≤ n → P (negsuc (4294967296 - suc n))) → P (signed n)
   by-half P low high = go (ltb n 2147483648) refl

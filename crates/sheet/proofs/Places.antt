@@ -2,15 +2,14 @@
 use mathlib.Core.Path.{_≡_, refl, sym, ap, _∙_, subst}
 use mathlib.Core.Bool.{Bool, true, _&&_}
 use mathlib.Core.List.{List, [], _∷_, _++_, map, flatMap}
-use Prim.Native.Nat.{ℕ, zero, suc, _+_, _*_, _<_, _≤_, _^_}
+use Prim.Native.Nat.{ℕ, zero, suc, _+_, _*_, _<_, _≤_}
 use native.Mathlib.Omega.{arith}
-use lib.Dec.{ltb}
 use lib.IntN.{ℤ, pos}
 use lib.ListN.{length, take, drop}
-use lib.Seq.{length-take-le, take-at, drop-at, drop-drop, drop-append-add}
+use lib.Seq.{take-at, drop-drop, drop-append-add}
 use borrow.Author.Tests.{le-leb}
 use Rattle.whole.specs.Every.{every}
-use Rattle.whole.specs.Places.{fromPlaces, inPlaces}
+use Rattle.whole.specs.Places.{inPlaces}
 use Rattle.whole.proofs.Bools.{both, joined}
 use Rattle.kinds.specs.Answer.{Answer, gives, refused, refusalOf}
 use Rattle.kinds.specs.Kinds.{isFourBytes}
@@ -19,16 +18,17 @@ use Rattle.kinds.proofs.Tested.{of-four-bytes}
 use Rattle.datum.specs.Page.{Family, shift, geoid, isEither, each}
 use Rattle.datum.specs.Point.{isCode, valuesOf}
 use Rattle.datum.proofs.Demands.{four-bytes}
-use Rattle.sheet.specs.Numbers.{number, inBytes, complement, signed}
+use Rattle.sheet.specs.Numbers.{inBytes}
 use Rattle.sheet.specs.Sheet.{Point, serial, datums, codes, count, body, point, points, pieces, rise, isListed, said}
 use Rattle.sheet.specs.Result.{inRecord, answerAt, resultOf}
 use Rattle.sheet.specs.Places.{pointAt, recordAt, recordRefusal, recordNumbers}
 use Rattle.sheet.specs.Form.{areBytes}
 use Rattle.sheet.specs.Inside.{recordOf, worked, records}
-use Rattle.sheet.proofs.Numbers.{one-read, number-back, bytes-back, number-below, complement-below, signed-back}
+use Rattle.sheet.proofs.Numbers.{one-read, value-back}
 use Rattle.sheet.proofs.Codes.{listed-six}
 use Rattle.sheet.proofs.Results.{worked-long}
 use Rattle.sheet.proofs.Calls.{result-is}
+use Rattle.sheet.proofs.Form.{part-back, part-below}
 
 -- ---- the record at a place
 records-at : (n k : ℕ) (body : List ℕ) → k < n → part (k * 13) 13 (records n body) ≡ worked (part (k * 9) 9 body)
@@ -84,15 +84,11 @@ code-at t right all k more =
     joined (le-leb 1 (pointAt k t .code) (six .0)) (le-leb (pointAt k t .code) 6 (six .1))
 
 -- ---- what is read there
-module _ (x : ℤ) (fits : isFourBytes x ≡ true) where
-  value-back : signed (number (inBytes 4 (complement x))) ≡ x
-  value-back = ap signed (number-back 4 (complement x) (complement-below x (of-four-bytes x fits))) ∙ signed-back x (of-four-bytes x fits)
-
 -- of three values that have 4 bytes, beside a number
 says : (n : ℕ) (x y z : ℤ) → isFourBytes x ≡ true → isFourBytes y ≡ true → isFourBytes z ≡ true
     → (recordRefusal (recordOf n x y z) ≡ n) × (recordNumbers (recordOf n x y z) ≡ x ∷ y ∷ z ∷ [])
 unfolding recordOf inBytes inPlaces flatMap
-says n x y z f g h = (sym (one-read 0 (recordOf n x y z) (omega arith)), (λ i. value-back x f i ∷ value-back y g i ∷ value-back z h i ∷ []))
+says n x y z f g h = (sym (one-read 0 (recordOf n x y z) (omega arith)), (λ i. value-back x (of-four-bytes x f) i ∷ value-back y (of-four-bytes y g) i ∷ value-back z (of-four-bytes z h) i ∷ []))
 
 -- of an answer whose values have 4 bytes
 pub record-says : (answer : Answer (Family ℤ)) → ((values : Family ℤ) → answer ≡ gives values → each isFourBytes values ≡ true)
@@ -109,21 +105,11 @@ pub point-says : (p : Point) → (recordRefusal (inRecord (answerAt p)) ≡ refu
 point-says p = record-says (answerAt p) (λ values h. four-bytes isEither (pos (p .code)) (p .latitude) (pos (p .longitude)) h)
 
 -- ---- the serial, of bytes
-every-take : (n : ℕ) (bytes : List ℕ) → areBytes bytes ≡ true → areBytes (take n bytes) ≡ true
-every-take zero bytes h = refl
-every-take (suc n) [] h = refl
-every-take (suc n) (b ∷ bytes) h =
-    let p = both (ltb b 256) (areBytes bytes) h in
-    joined (p .0) (every-take n bytes (p .1))
-
 module _ (t : List ℕ) (bytes : areBytes t ≡ true) (long : 4 ≤ length t) where
-  four-long : length (part 0 4 t) ≡ 4
-  four-long = length-take-le 4 t long
-
   pub serial-below : serial t < 4294967296
   unfolding serial
-  serial-below = subst (λ (n : ℕ). number (part 0 4 t) < 256 ^ n) four-long (number-below (part 0 4 t) (every-take 4 t bytes))
+  serial-below = part-below 0 4 t long bytes
 
   pub serial-bytes : inBytes 4 (serial t) ≡ part 0 4 t
   unfolding serial
-  serial-bytes = ap (λ (n : ℕ). inBytes n (number (part 0 4 t))) (sym four-long) ∙ bytes-back (part 0 4 t) (every-take 4 t bytes)
+  serial-bytes = part-back 0 4 t long bytes
