@@ -4,10 +4,10 @@ use mathlib.Core.Path.{_≡_, refl, sym, ap, _∙_, subst}
 use mathlib.Core.Bool.{_&&_, and-assoc, and-true}
 use mathlib.Core.List.{List, [], _∷_}
 use Prim.Native.Nat.{ℕ, zero, suc, _+_, _-_, _*_, _<_, _≤_, _^_}
-use native.Mathlib.Numerals.{add-one}
 use native.Mathlib.Omega.{arith}
-use lib.ListN.{length, getD, take, drop}
-use lib.Seq.{drop-cons, take-all, length-take-le}
+use lib.ListN.{length, take, drop, length-map}
+use lib.Seq.{take-all, length-take-le}
+use Rattle.whole.specs.Places.{fromPlaces}
 use Rattle.kinds.specs.Bytes.{part}
 use Rattle.kinds.proofs.Bytes.{at, part-next, part-two}
 use Rattle.position.specs.Text.{latitude, longitude, isDigit, digitOf, allDigits, number, isAngle, inSixties, angle}
@@ -34,17 +34,20 @@ unfolding allDigits
 two-digits from t h = ap allDigits (part-two from t h) ∙ simp and-true
 
 pub two-number : (from : ℕ) (t : List ℕ) → from + 2 ≤ length t → number (part from 2 t) ≡ digitOf (at t from) * 10 + digitOf (at t (from + 1))
-unfolding number
+unfolding number fromPlaces
 two-number from t h = ap number (part-two from t h) ∙ omega arith
 
 -- three, as a digit and two more
+number-next : (b : ℕ) (t : List ℕ) → length t ≡ 2 → number (b ∷ t) ≡ digitOf b * 100 + number t
+unfolding number fromPlaces
+number-next b t h = ap (λ (n : ℕ). digitOf b * 10 ^ n + number t) (length-map t digitOf ∙ h)
+
 pub three-digits : (from : ℕ) (t : List ℕ) → from < length t → allDigits (part from 3 t) ≡ (isDigit (at t from) && allDigits (part (suc from) 2 t))
 unfolding allDigits
 three-digits from t h = ap allDigits (part-next from 2 t h)
 
 pub three-number : (from : ℕ) (t : List ℕ) → from + 3 ≤ length t → number (part from 3 t) ≡ digitOf (at t from) * 100 + number (part (suc from) 2 t)
-unfolding number
-three-number from t h = ap number (part-next from 2 t (omega arith)) ∙ ap (λ (n : ℕ). digitOf (at t from) * 10 ^ n + number (part (suc from) 2 t)) (ap length (part-two (suc from) t (omega arith)))
+three-number from t h = ap number (part-next from 2 t (omega arith)) ∙ number-next (at t from) (part (suc from) 2 t) (ap length (part-two (suc from) t (omega arith)))
 
 -- ---- a longitude's text: a digit, and a text of a latitude's form
 abbrev pub rest : List ℕ → List ℕ
@@ -64,8 +67,6 @@ longitude-in-sixties [] h = absurd (omega arith)
 longitude-in-sixties (b ∷ t) h = rw (rest-is b t)
 
 pub longitude-angle : (t : List ℕ) → length t ≡ 12 → digitOf (at t 0) * 360000000 + angle latitude (rest t) ≡ angle longitude t
-unfolding angle number
+unfolding angle
 longitude-angle [] h = absurd (omega arith)
-longitude-angle (b ∷ t) h =
-    let e : 10 ^ length (take 2 t) ≡ 100 = ap (λ (n : ℕ). 10 ^ n) (length-take-le 2 t (omega arith)) in
-    rw (rest-is b t) (simp e (omega arith))
+longitude-angle (b ∷ t) h = rw (rest-is b t) (simp (number-next b (take 2 t) (length-take-le 2 t (omega arith))) (omega arith))

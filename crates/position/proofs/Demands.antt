@@ -11,6 +11,7 @@ use lib.IntN.{ℤ, pos}
 use lib.ListN.{length, take, drop, replicate}
 use lib.Seq.{take-at}
 use borrow.Author.Tests.{le-leb}
+use Rattle.whole.specs.Places.{fromPlaces}
 use Rattle.kinds.specs.Answer.{Answer, gives, refused, placed, lent}
 use Rattle.kinds.proofs.Answers.{same-value, passed}
 use Rattle.position.specs.Text.{Coordinate, latitude, longitude, fullStop, places, textLength, inRange, isLetter, isDigit, formed, ms, digitOf, allDigits, number, degrees, minutes, seconds, thousandths, letter, isAngle, inSixties, angle, signed, noZeroSouth, rightKinds, rightRanges, read, text, write}
@@ -153,7 +154,7 @@ pub record Orders : Type 0 where
   pub range-first : write latitude (pos 324000001) 0 ≡ refused 3
 
 pub orders : Orders
-unfolding read write isAngle inSixties angle allDigits number digitOf
+unfolding read write isAngle inSixties angle allDigits number fromPlaces digitOf
 orders = record { length-first = refl; byte-next = refl; range-first = refl }
 
 -- ---- 'Points to hold against the page': two of the twelve
@@ -164,5 +165,5 @@ pub record Worked : Type 0 where
   pub zero-south : read latitude (48 ∷ 48 ∷ 48 ∷ 48 ∷ 48 ∷ 48 ∷ 46 ∷ 48 ∷ 48 ∷ 48 ∷ 83 ∷ []) ≡ refused 3
 
 pub worked : Worked
-unfolding read isAngle inSixties angle allDigits number digitOf
+unfolding read isAngle inSixties angle allDigits number fromPlaces digitOf
 worked = record { pole = refl; zero-south = refl }

@@ -10,6 +10,7 @@ use lib.IntN.{ℤ, pos, negsuc, natAbs}
 use lib.Signed.{leZ}
 use lib.ListN.{length}
 use borrow.Author.Tests.{eq-eqb, ne-eqb, eqb-true, lt-ltb, leb-true, ltb-true}
+use Rattle.whole.specs.Places.{inPlaces}
 use Rattle.whole.proofs.Bools.{both, either}
 use Rattle.kinds.specs.Answer.{gives}
 use Rattle.kinds.proofs.Answers.{passed, same-value}
@@ -30,7 +31,7 @@ record Parts (k : Coordinate) (t : List ℕ) (d m s f b : ℕ) : Type 0 where
   of-letter : letter k t ≡ b
 
 parts : (k : Coordinate) (d m s f b : ℕ) → Parts k (formed k d m s f b) d m s f b
-unfolding digits
+unfolding digits inPlaces
 parts latitude d m s f b = record { long = refl; of-degrees = refl; of-minutes = refl; of-seconds = refl; of-point = refl; of-thousandths = refl; of-letter = refl }
 parts longitude d m s f b = record { long = refl; of-degrees = refl; of-minutes = refl; of-seconds = refl; of-point = refl; of-thousandths = refl; of-letter = refl }
 

@@ -6,6 +6,7 @@ use lib.IntN.{ℤ}
 use lib.ListN.{length, take, drop}
 use lib.Seq.{take-length}
 use borrow.Author.Tests.{le-leb, lt-leb}
+use Rattle.whole.specs.Places.{inPlaces}
 use Rattle.kinds.specs.Answer.{Answer, gives, refused, provided, placed, counted, lent}
 use Rattle.kinds.specs.Kinds.{tested}
 use Rattle.kinds.proofs.Answers.{passed, failed}
@@ -14,7 +15,7 @@ use Rattle.position.specs.Text.{Coordinate, latitude, longitude, inRange
 -- ---- the text of a number
 -- a latitude's text is a longitude's without the first digit
 pub spelled-rest : (m b : ℕ) → take 11 (drop 1 (spelled longitude m b)) ≡ spelled latitude m b
-unfolding spelled digits
+unfolding spelled digits inPlaces
 spelled-rest m b = refl
 
 -- ---- bytes put at the start of a buffer

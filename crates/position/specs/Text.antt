@@ -1,11 +1,12 @@
 -- Document 01, 'Positions': a position as text. A latitude is `ddmmss.sssN` or `S`, a longitude `dddmmss.sssE`; what holds of
 -- both is said once.
 use mathlib.Core.Bool.{Bool, true, _&&_, _||_, not, cond}
-use mathlib.Core.List.{List, [], _∷_, _++_}
-use Prim.Native.Nat.{ℕ, zero, suc, _+_, _-_, _*_, _/_, _%_, _^_}
+use mathlib.Core.List.{List, [], _∷_, _++_, map}
+use Prim.Native.Nat.{ℕ, _+_, _-_, _*_, _/_, _%_}
 use lib.Dec.{eqb, leb, ltb}
 use lib.IntN.{ℤ, pos, negsuc, negℤ, natAbs}
 use lib.ListN.{length, getD}
+use Rattle.whole.specs.Places.{fromPlaces, inPlaces}
 use Rattle.kinds.specs.Answer.{Answer, gives, provided, placed}
 use Rattle.kinds.specs.Bytes.{part}
 use Rattle.kinds.specs.Kinds.{isLatitude, isLongitude}
@@ -56,19 +57,20 @@ isDigit b = leb 48 b && leb b 57
 unfoldable pub digitOf : ℕ → ℕ
 digitOf b = b - 48
 
+abbrev pub byteOf : ℕ → ℕ
+byteOf d = 48 + d
+
 unfoldable pub allDigits : List ℕ → Bool
 allDigits [] = true
 allDigits (b ∷ t) = isDigit b && allDigits t
 
 -- the number that digits say, the first counting most
 unfoldable pub number : List ℕ → ℕ
-number [] = 0
-number (b ∷ t) = digitOf b * 10 ^ length t + number t
+number t = fromPlaces 10 (map digitOf t)
 
 -- n in so many digits
 unfoldable pub digits : ℕ → ℕ → List ℕ
-digits zero n = []
-digits (suc w) n = (48 + n / 10 ^ w % 10) ∷ digits w n
+digits w n = map byteOf (inPlaces 10 w n)
 
 -- ---- the form of a text
 -- degrees, minutes, seconds and thousandths, each in its digits, and a letter

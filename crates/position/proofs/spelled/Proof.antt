@@ -1,6 +1,7 @@
 -- `position::spelled` meets its contract. Assumes nothing.
 use native.Mathlib.Nat.{div-one}
 use borrow.Author.Needs.{needs}
+use Rattle.whole.specs.Places.{inPlaces}
 use Rattle.position.specs.Text.{digits, spelled}
 use Rattle.position.proofs.spelled.Statement.{statement}
 use Rattle.position.proofs.spelled.Tie as tie
@@ -36,7 +37,7 @@ last-digit-requires-10 : tie.Need-last-digit-requires-10
 last-digit-requires-10 c κs = search needs
 
 returns : tie.Need-returns
-unfolding spelled digits
+unfolding spelled digits inPlaces
 returns c = simp (c .last-digit10 .ensures, c .before .last-digit9 .ensures, c .before .before .last-digit8 .ensures, c .before .before .before .last-digit7 .ensures, c .before .before .before .before .last-digit6 .ensures, c .before .before .before .before .before .last-digit5 .ensures, c .before .before .before .before .before .before .last-digit4 .ensures, c .before .before .before .before .before .before .before .last-digit3 .ensures, c .before .before .before .before .before .before .before .before .last-digit2 .ensures, c .before .before .before .before .before .before .before .before .before .last-digit .ensures, div-one)
 
 pub spelled-spec : {M : Type 1} → statement M
