@@ -1,7 +1,6 @@
 // Positions as text: a table of texts; every byte at every place, every length to 20; and numbers written into buffers.
 use kinds::LocalLatitudeAnswer;
 use kinds::LocalLongitudeAnswer;
-use kinds::Refusal;
 use kinds::WrittenAnswer;
 use libc::STDOUT_FILENO;
 ghost use mathlib.Core.Path.{_≡_};
@@ -14,21 +13,17 @@ fn number(n: i32) {
     io::write_all(STDOUT_FILENO, b")");
 }
 
-fn digit(why: Refusal) {
-    super::print(b"", why.number() as i64);
-}
-
 fn latitude(text: &[u8]) {
     match position::read_latitude(text) {
         LocalLatitudeAnswer::Gives(x) => number(x.ms()),
-        LocalLatitudeAnswer::Refused(why) => digit(why),
+        LocalLatitudeAnswer::Refused(why) => super::digit(why.number()),
     }
 }
 
 fn longitude(text: &[u8]) {
     match position::read_longitude(text) {
         LocalLongitudeAnswer::Gives(x) => number(x.ms()),
-        LocalLongitudeAnswer::Refused(why) => digit(why),
+        LocalLongitudeAnswer::Refused(why) => super::digit(why.number()),
     }
 }
 
@@ -73,14 +68,7 @@ fn lengths(text: &[u8])
 }
 
 fn put(answer: WrittenAnswer, out: &[u8]) {
-    match answer {
-        WrittenAnswer::Gives(n) => {
-            io::write_all(STDOUT_FILENO, b"(");
-            io::print_decimal(STDOUT_FILENO, n as u64);
-            io::write_all(STDOUT_FILENO, b")");
-        }
-        WrittenAnswer::Refused(why) => digit(why),
-    }
+    super::written(answer);
     io::write_all(STDOUT_FILENO, out);
 }
 

@@ -1,0 +1,81 @@
+-- `pages::sheets::counted` is safe and ends. Assumes nothing.
+use mathlib.Core.Path.{sym}
+use native.Mathlib.Omega.{arith}
+use lib.ListN.{length-set}
+use lib.Seq.{length-take-le}
+use borrow.Author.Needs.{needs}
+use Rattle.pages.proofs.sheets.counted.Statement.{statement}
+use Rattle.pages.proofs.sheets.counted.Tie as tie
+
+slice-aggregate-print : tie.Need-slice-aggregate-print
+slice-aggregate-print c = search needs
+
+cast-print : tie.Need-cast-print
+cast-print c = search needs
+
+print-requires : tie.Need-print-requires
+print-requires c κs = search needs
+
+slice-aggregate-write-all : tie.Need-slice-aggregate-write-all
+slice-aggregate-write-all c = search needs
+
+write-all-requires : tie.Need-write-all-requires
+write-all-requires c κs = search needs
+
+cast-sheet : tie.Need-cast-sheet
+cast-sheet c = search needs
+
+array-write-sheet : tie.Need-array-write-sheet
+array-write-sheet c = search needs
+
+cast-sheet-2 : tie.Need-cast-sheet-2
+cast-sheet-2 c = search needs
+
+array-write-sheet-2 : tie.Need-array-write-sheet-2
+array-write-sheet-2 c = search needs
+
+mul-end : tie.Need-mul-end
+mul-end c = search needs
+
+add-end : tie.Need-add-end
+add-end c = search needs
+
+array-share-prefix-sheet : tie.Need-array-share-prefix-sheet
+array-share-prefix-sheet c = simp length-set (omega arith)
+
+slice-aggregate-work : tie.Need-slice-aggregate-work
+slice-aggregate-work c = sym (length-take-le _ _ (array-share-prefix-sheet (c .before)))
+
+work-requires : tie.Need-work-requires
+work-requires c κs = search needs
+
+written-requires : tie.Need-written-requires
+written-requires c κs = search needs
+
+same-length : tie.Need-same-length
+same-length c = search needs
+
+returns : tie.Need-returns
+returns c = search needs
+
+pub counted-spec : {M : Type 1} → statement M
+counted-spec =
+    tie.close
+    (tie.spec
+    slice-aggregate-print
+    cast-print
+    print-requires
+    slice-aggregate-write-all
+    write-all-requires
+    cast-sheet
+    array-write-sheet
+    cast-sheet-2
+    array-write-sheet-2
+    mul-end
+    add-end
+    array-share-prefix-sheet
+    slice-aggregate-work
+    work-requires
+    written-requires
+    same-length
+    returns)

@@ -1,0 +1,39 @@
+-- `pages::sheets::into` is safe and ends. Assumes nothing.
+use mathlib.Core.Path.{sym}
+use lib.Seq.{length-take-le}
+use borrow.Author.Needs.{needs}
+use Rattle.pages.proofs.sheets.into.Statement.{statement}
+use Rattle.pages.proofs.sheets.into.Tie as tie
+
+slice-relend-prefix-work : tie.Need-slice-relend-prefix-work
+slice-relend-prefix-work c = search needs
+
+slice-aggregate-work : tie.Need-slice-aggregate-work
+slice-aggregate-work c = sym (length-take-le _ _ (slice-relend-prefix-work (c .before)))
+
+work-requires : tie.Need-work-requires
+work-requires c κs = search needs
+
+written-requires : tie.Need-written-requires
+written-requires c κs = search needs
+
+hex-requires : tie.Need-hex-requires
+hex-requires c κs = search needs
+
+same-length : tie.Need-same-length
+same-length c = search needs
+
+returns : tie.Need-returns
+returns c = search needs
+
+pub into-spec : {M : Type 1} → statement M
+into-spec =
+    tie.close
+    (tie.spec
+    slice-relend-prefix-work
+    slice-aggregate-work
+    work-requires
+    written-requires
+    hex-requires
+    same-length
+    returns)

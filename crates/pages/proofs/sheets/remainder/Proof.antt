@@ -1,0 +1,67 @@
+-- `pages::sheets::remainder` is safe and ends. Assumes nothing.
+use Prim.Native.Nat.{_<_, _≤_, _-_}
+use lib.ListN.{length}
+use borrow.Author.Needs.{needs}
+use Rattle.pages.proofs.sheets.remainder.Statement.{statement}
+use Rattle.pages.proofs.sheets.remainder.Tie as tie
+
+abbrev Inv-loop : tie.InvT-loop
+Inv-loop bytes left₀ i₀ t4 left i = (i ≤ length bytes) × (left < 1000000007)
+
+abbrev μ-loop : tie.MeasureT-loop
+μ-loop bytes left₀ i₀ t4 left i = length bytes - i
+
+loop-holds : tie.Need-loop-holds Inv-loop μ-loop
+loop-holds c = search needs
+
+mul-left : tie.Need-mul-left Inv-loop μ-loop
+mul-left c = search needs
+
+shared-slice-read-wide : tie.Need-shared-slice-read-wide Inv-loop μ-loop
+shared-slice-read-wide c = search needs
+
+wide-requires : tie.Need-wide-requires Inv-loop μ-loop
+wide-requires c κs = search needs
+
+add-left : tie.Need-add-left Inv-loop μ-loop
+add-left c = search needs
+
+add-i : tie.Need-add-i Inv-loop μ-loop
+add-i c = search needs
+
+loop-less : tie.Need-loop-less Inv-loop μ-loop
+loop-less c = search needs
+
+loop-again : tie.Need-loop-again Inv-loop μ-loop
+loop-again c = search needs
+
+slice-aggregate-print : tie.Need-slice-aggregate-print Inv-loop μ-loop
+slice-aggregate-print c = search needs
+
+cast-print : tie.Need-cast-print Inv-loop μ-loop
+cast-print c = search needs
+
+print-requires : tie.Need-print-requires Inv-loop μ-loop
+print-requires c κs = search needs
+
+returns : tie.Need-returns Inv-loop μ-loop
+returns c = search needs
+
+pub remainder-spec : {M : Type 1} → statement M
+remainder-spec =
+    tie.close
+    (tie.spec
+    Inv-loop
+    μ-loop
+    loop-holds
+    mul-left
+    shared-slice-read-wide
+    wide-requires
+    add-left
+    add-i
+    loop-less
+    loop-again
+    slice-aggregate-print
+    cast-print
+    print-requires
+    returns)
