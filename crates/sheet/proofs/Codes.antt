@@ -73,8 +73,8 @@ listed-at [] p h = absurd (false≢true h)
 listed-at (code ∷ rest) p h =
     either (eqb code p) (isListed rest p) h (λ e. (0, (omega arith, eqb-true code p e)))
     (λ e.
-        let there = listed-at rest p e in
-        (suc (there .0), (omega (arith, there .1 .0), there .1 .1)))
+    let there = listed-at rest p e in
+    (suc (there .0), (omega (arith, there .1 .0), there .1 .1)))
 
 pub at-listed : (codes : List ℕ) (i : ℕ) → i < length codes → isListed codes (at codes i) ≡ true
 unfolding isListed
