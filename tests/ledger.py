@@ -31,7 +31,7 @@ for path in glob.glob('crates/*/proofs/Demands.antt'):
     with open(path, encoding='utf-8') as f:
         blocks = re.split(r'\n(?=\S)', f.read())
     # a theorem stands by itself, or in a module with what it is about; what stands in a record is a part of one
-    found = [re.findall(r'^  pub (\S+) :' if b.startswith('module') else r'^pub (?!record)(\S+) :', b, re.M) for b in blocks]
+    found = [re.findall(r'^ +pub (\S+) :' if b.startswith('module') else r'^pub (?!record)(\S+) :', b, re.M) for b in blocks]
     to_cite |= {('theorem', path.split('/')[1], name) for names in found for name in names}
 
 wrong, cited, owed, rows, section = [], set(), 0, 0, ''

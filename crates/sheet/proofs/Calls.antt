@@ -14,10 +14,10 @@ use mir.Val.{Fits, SFits, toZ, ofZ}
 use Rattle.whole.proofs.Words.{of}
 use Rattle.whole.specs.Every.{every}
 use Rattle.whole.specs.Places.{inPlaces}
-use Rattle.kinds.specs.Answer.{Answer, gives, refused, Test, inOrder, placed, counted, lent}
+use Rattle.kinds.specs.Answer.{gives, refused, Test, inOrder, placed, counted, lent}
 use Rattle.kinds.proofs.Answers.{all-held, held, first-failed, fails, in-two, following-tests}
 use Rattle.sheet.specs.Numbers.{inBytes}
-use Rattle.sheet.specs.Sheet.{Point, serial, datums, codes, count, body, point, points, pieces, rise, isListed, serialTests, countTests, pointTests, said}
+use Rattle.sheet.specs.Sheet.{serial, datums, codes, count, body, point, points, pieces, rise, isListed, serialTests, countTests, pointTests, said}
 use Rattle.sheet.specs.Result.{inRecord, answerAt, resultOf, workOf}
 use Rattle.sheet.specs.Inside.{flags, flagOf, allFlagged, worked, records, layoutAnswer, laidOut, readOf, finished}
 use Rattle.sheet.specs.declared.Layout.{Layout}

@@ -1,17 +1,17 @@
 -- What document 01 asks of the unit sheet and its result. Stated over specs/ alone. Assumes nothing.
 use mathlib.Core.Path.{_≡_, refl, sym, ap, _∙_, subst}
-use mathlib.Core.Bool.{true, false, not, false≢true}
+use mathlib.Core.Bool.{true, false, false≢true}
 use mathlib.Core.List.{List, [], _∷_, flatMap}
 use mathlib.Core.Logic.{_↔_, _⊎_, inl, inr, ⊎-elim}
 use Prim.Native.Nat.{ℕ, zero, suc, _+_, _*_, _<_, _≤_, _^_}
 use native.Mathlib.Omega.{arith}
-use lib.Dec.{eqb, leb}
+use lib.Dec.{eqb}
 use lib.IntN.{ℤ, pos, negℤ}
 use lib.ListN.{length, getD, replicate}
-use borrow.Author.Tests.{leb-true, le-leb, eqb-false, ne-eqb, not-true, not-false}
+use borrow.Author.Tests.{leb-true, le-leb, eqb-false, not-true}
 use Rattle.whole.specs.Places.{fromPlaces, inPlaces}
 use Rattle.whole.proofs.Bools.{joined}
-use Rattle.kinds.specs.Answer.{Answer, gives, refused, AllHold, FirstFails, refusalOf, counted, lent}
+use Rattle.kinds.specs.Answer.{Answer, gives, refused, AllHold, FirstFails, following, refusalOf, placed, counted, lent}
 use Rattle.kinds.specs.Kinds.{within, isFourBytes}
 use Rattle.kinds.specs.Bytes.{part}
 use Rattle.kinds.proofs.Tested.{of-four-bytes}
@@ -20,7 +20,7 @@ use Rattle.datum.specs.Point.{isCode, pageOf, valuesOf}
 use Rattle.datum.specs.Exact.{exact, AllWithin, demanded}
 use Rattle.datum.proofs.Demands as datum
 use Rattle.sheet.specs.Numbers.{number, inBytes, complement, signed}
-use Rattle.sheet.specs.Sheet.{serial, datums, codes, count, body, point, points, pieces, isUnit, rise, isListed, tests, said}
+use Rattle.sheet.specs.Sheet.{Sheet, serial, datums, codes, count, body, point, points, pieces, isUnit, rise, isListed, tests, said, sheetOf}
 use Rattle.sheet.specs.Result.{inRecord, answerAt, resultOf, workOf}
 use Rattle.sheet.specs.Places.{pointAt, recordAt, recordRefusal, recordNumbers}
 use Rattle.sheet.specs.Form.{sheetBytes, isSheet, areBytes}
@@ -28,6 +28,7 @@ use Rattle.sheet.proofs.Numbers as numbers
 use Rattle.sheet.proofs.Codes.{six, risen, listed-at, at-listed}
 use Rattle.sheet.proofs.Calls.{result-long}
 use Rattle.sheet.proofs.Works as works
+use Rattle.sheet.proofs.Form as form
 use Rattle.sheet.proofs.Places as places
 
 -- ---- 'Numbers are big-endian', 'two's complement'
@@ -67,6 +68,22 @@ worked = record {
   height = refl;
   refusal = refl;
 }
+
+-- ---- 'A sheet is: serial, 4 bytes, not zero; a count of datums ..': a sheet as it is made, from its parts
+-- by its own unit it is read as what it was made of
+pub made-reads : (sheet : Sheet) → isSheet sheet ≡ true → sheetOf (pos (sheet .serial)) (sheetBytes sheet) ≡ gives sheet
+made-reads sheet h = form.made-reads sheet h
+
+-- so where there is room it is worked, and its points' answers are the result
+pub made-works : (sheet : Sheet) (room : ℕ) → isSheet sheet ≡ true → length (resultOf sheet) ≤ room → workOf (pos (sheet .serial)) (sheetBytes sheet) room ≡ gives (resultOf sheet)
+made-works sheet room h enough =
+    ap (λ (answer : Answer Sheet). following answer (λ said. placed (resultOf said) room)) (made-reads sheet h)
+    ∙ simp (le-leb (length (resultOf sheet)) room enough)
+
+-- and what is read was so made, of what a sheet may have, for the unit that reads it: no other bytes are accepted
+pub reads-made : (unit : ℤ) (bytes : List ℕ) (sheet : Sheet) → areBytes bytes ≡ true → sheetOf unit bytes ≡ gives sheet
+    → (unit ≡ pos (sheet .serial)) × ((isSheet sheet ≡ true) × (sheetBytes sheet ≡ bytes))
+reads-made unit bytes sheet are h = form.reads-made unit bytes sheet are h
 
 -- ---- 'For a sheet, in the order of its bytes: .. then buffer 7'
 module _ (unit : ℤ) (bytes : List ℕ) (room : ℕ) where

@@ -2,7 +2,7 @@
 use mathlib.Core.Path.{_≡_, refl, sym, ap, _∙_, subst}
 use mathlib.Core.Bool.{Bool, true, false}
 use mathlib.Core.List.{List, [], _∷_}
-use Prim.Native.Nat.{ℕ, zero, suc, _+_, _-_, _*_, _/_, _%_, _<_, _≤_, _^_}
+use Prim.Native.Nat.{ℕ, suc, _+_, _-_, _*_, _/_, _%_, _<_, _≤_, _^_}
 use native.Mathlib.Omega.{arith}
 use lib.Dec.{T, ltb}
 use lib.IntN.{ℤ, pos, negsuc, natAbs, _+ℤ_, _-ℤ_}
@@ -14,7 +14,7 @@ use mir.Val.{Fits, SFits, toZ, ofZ}
 use Rattle.whole.proofs.Ring.{pos-sub, pos-sub-≤}
 use Rattle.whole.proofs.Sizes.{abs-+, abs--}
 use Rattle.whole.proofs.Signs.{below-zero, from-zero}
-use Rattle.whole.proofs.Places.{in-places-long, from-in-places, from-below, in-from-places}
+use Rattle.whole.proofs.Places.{from-in-places, from-below, in-from-places}
 use Rattle.whole.proofs.Words.{Holds, of, lit, zero-is, from-unsigned, to, wr, asks, gives, tested, widened, to-unsigned, to-unsigned-asks, small, sized}
 use Rattle.whole.specs.Every.{every}
 use Rattle.whole.specs.Places.{fromPlaces, inPlaces}
@@ -127,10 +127,6 @@ bytes-back bytes h = in-from-places 256 (omega arith) bytes h
 pub number-below : (bytes : List ℕ) → every (λ byte. ltb byte 256) bytes ≡ true → number bytes < 256 ^ length bytes
 unfolding number
 number-below bytes h = from-below 256 (omega arith) bytes h
-
-pub bytes-long : (w n : ℕ) → length (inBytes w n) ≡ w
-unfolding inBytes
-bytes-long w n = in-places-long 256 w n
 
 -- what a number of 4 bytes stands for, by its case
 low-is : (n : ℕ) → n < 2147483648 → signed n ≡ pos n

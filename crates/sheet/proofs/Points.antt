@@ -1,11 +1,11 @@
 -- The points of a sheet's body, one by one as the code goes through them, and their records. Assumes nothing.
-use mathlib.Core.Path.{_≡_, refl, sym, ap, _∙_, subst}
+use mathlib.Core.Path.{_≡_, refl, sym, ap, _∙_}
 use mathlib.Core.Bool.{Bool, true, false, not, _&&_}
 use mathlib.Core.List.{List, [], _∷_, map, flatMap}
-use Prim.Native.Nat.{ℕ, zero, suc, _+_, _-_, _*_, _<_, _≤_}
+use Prim.Native.Nat.{ℕ, suc, _+_, _-_, _*_, _<_, _≤_}
 use native.Mathlib.Omega.{arith}
 use lib.IntN.{ℤ, pos}
-use lib.ListN.{length, getD, take, drop, length-drop}
+use lib.ListN.{length, take, drop, length-drop}
 use lib.Seq.{length-take-le, getD-take, getD-drop, drop-drop}
 use borrow.Author.Tests.{not-true, not-false}
 use mir.Syntax.{w64}
@@ -24,7 +24,7 @@ use Rattle.datum.specs.declared.Shifts.{Shifts}
 use Rattle.datum.specs.declared.PointAnswer.{PointAnswer}
 use Rattle.datum.specs.declared.PointAnswer.the-variants as Said
 use Rattle.sheet.specs.Numbers.{number, inBytes, complement, signed}
-use Rattle.sheet.specs.Sheet.{Point, point, pieces, pointLength}
+use Rattle.sheet.specs.Sheet.{point, pieces}
 use Rattle.sheet.specs.Result.{inRecord}
 use Rattle.sheet.specs.Inside.{flagOf, allFlagged, recordOf, worked}
 use Rattle.sheet.proofs.Numbers.{one-read}

@@ -8,7 +8,7 @@ use native.Mathlib.Omega.{arith}
 use lib.Dec.{eqb, leb}
 use lib.IntN.{ℤ, pos, negsuc}
 use lib.ListN.{length}
-use borrow.Author.Tests.{leb-true, leb-false, le-leb, lt-leb, eqb-true, eqb-false, eq-eqb, ne-eqb, not-true, not-false}
+use borrow.Author.Tests.{leb-true, leb-false, le-leb, lt-leb, eqb-true, eqb-false, ne-eqb, not-true}
 use Rattle.whole.proofs.Bools.{either}
 use Rattle.kinds.specs.Answer.{Answer, gives, refused, AllHold, FirstFails, inOrder, placed}
 use Rattle.kinds.proofs.Answers.{same-value, passed, failed, all-held, held, fails, first-or-behind, first-number, following-tests}

@@ -8,7 +8,7 @@ use lib.ListN.{getD}
 use Rattle.whole.specs.Every.{every}
 use Rattle.kinds.specs.Answer.{Answer, gives, refused, numberOf, inOrder, placed}
 use Rattle.sheet.specs.Numbers.{inBytes, complement}
-use Rattle.sheet.specs.Sheet.{Point, datums, count, point, points, pieces, pointLength, isListed, serialTests, countTests, pointTests, said}
+use Rattle.sheet.specs.Sheet.{datums, count, point, points, pieces, pointLength, isListed, serialTests, countTests, pointTests, said}
 use Rattle.sheet.specs.Result.{inRecord, answerAt, resultOf}
 use Rattle.sheet.specs.declared.Layout.{Layout}
 use Rattle.sheet.specs.declared.LayoutAnswer.{LayoutAnswer}
