@@ -8,7 +8,7 @@ import re
 import sys
 
 COLUMNS = ['promise', 'definition', 'function', 'theorem', 'must-fail edits', 'run']
-FINISHED = ['Positions', 'The six areas', 'The working rule', 'Floating numbers']
+FINISHED = ['Positions', 'The six areas', 'The working rule', 'Floating numbers', 'The unit sheet and its result']
 
 
 def declared(pattern, expression):
