@@ -165,8 +165,8 @@ foreign unit bytes out long some other =
 -- what is worked is the unit's own, and has a serial
 pub own : (unit : ℤ) (bytes : List ℕ) (room : ℕ) {result : List ℕ} → workOf unit bytes room ≡ gives result → (unit ≡ pos (serial bytes)) × (serial bytes ≡ 0 → ⊥)
 own unit bytes room {result} h =
-    let held = worked-where unit bytes room result .0 h .0 in
-    (works.is-unit unit (serial bytes) (held .1 .1 .0), eqb-false (serial bytes) 0 (not-true (eqb (serial bytes) 0) (held .1 .0)))
+    let (_, (some, (same, _))) = worked-where unit bytes room result .0 h .0 in
+    (works.is-unit unit (serial bytes) same, eqb-false (serial bytes) 0 (not-true (eqb (serial bytes) 0) some))
 
 -- a unit whose number is no serial has no sheet: one with a serial gives it 8
 pub no-serial : (unit : ℤ) (bytes : List ℕ) (room : ℕ) → within (pos 1) (pos 4294967295) unit ≡ false → areBytes bytes ≡ true
@@ -196,7 +196,8 @@ module _ (unit : ℤ) (bytes : List ℕ) (room : ℕ) {result : List ℕ} (h : w
 
   pub same-count : number (part 4 2 result) ≡ count bytes
   same-count =
-      let most : count bytes ≤ 500 = leb-true (count bytes) 500 (worked-where unit bytes room result .0 h .0 .1 .1 .1 .1 .1 .1 .1 .1 .0) in
+      let (_, (_, (_, (_, (_, (_, (_, (_, (most, _))))))))) = worked-where unit bytes room result .0 h .0 in
+      let few : count bytes ≤ 500 = leb-true (count bytes) 500 most in
       sym (ap (λ (r : List ℕ). number (part 4 2 r)) is-result) ∙ ap number (places.count-at bytes) ∙ number-back 2 (count bytes) (omega arith)
 
   -- ---- 'then 13 bytes a point': at each place, the answer for the point at that place of the sheet
@@ -226,10 +227,11 @@ module _ (unit : ℤ) (bytes : List ℕ) (room : ℕ) {result : List ℕ} (h : w
 
     code-is : isCode (pos code) ≡ true
     code-is =
-        let held = worked-where unit bytes room result .0 h .0 in
-        places.code-at bytes (held .1 .1 .1 .1 .1 .1 .0) (held .1 .1 .1 .1 .1 .1 .1 .1 .1 .1 .0) k place
+        let (_, (_, (_, (_, (_, (_, (right, (_, (_, (_, (all, _))))))))))) = worked-where unit bytes room result .0 h .0 in
+        places.code-at bytes right all k place
 
-    -- 'A point refused with 3 or 6 doesn't refuse the sheet': it is worked, whatever its points' numbers, and gives no other
+    -- 'A point refused with 3 or 6 doesn't refuse the sheet': `made-works` asks nothing of where the points are; and no point
+    -- of a sheet that is worked has another number
     pub points-refused : (recordRefusal (recordAt k result) ≡ 0) ⊎ ((recordRefusal (recordAt k result) ≡ 3) ⊎ (recordRefusal (recordAt k result) ≡ 6))
     points-refused = go (answerAt (pointAt k bytes)) refl
       where

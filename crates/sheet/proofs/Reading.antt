@@ -2,6 +2,7 @@
 use mathlib.Core.Path.{_≡_, refl, sym, ap, _∙_}
 use mathlib.Core.Bool.{Bool, true, false, not}
 use mathlib.Core.List.{List}
+use mathlib.Core.Logic.{inl, inr}
 use Prim.Native.Nat.{ℕ, _+_, _-_, _*_, _<_, _≤_}
 use native.Mathlib.Omega.{arith}
 use lib.Dec.{eqb, leb}
@@ -10,11 +11,11 @@ use lib.ListN.{length, take, drop}
 use borrow.Author.Tests.{leb-true, eqb-true, le-leb, lt-leb, eq-eqb, ne-eqb, not-true, not-false}
 use mir.Syntax.{w64}
 use mir.Val.{SFits, ofZ}
-use Rattle.kinds.specs.Answer.{Answer, gives, refused, provided}
+use Rattle.kinds.specs.Answer.{Answer, gives, refused, FirstFails}
 use Rattle.kinds.specs.Bytes.{part}
-use Rattle.kinds.proofs.Answers.{passed, same-value}
+use Rattle.kinds.proofs.Answers.{same-value, all-held, held, fails}
 use Rattle.sheet.specs.Numbers.{number}
-use Rattle.sheet.specs.Sheet.{serial, datums, codes, count, isUnit, rise}
+use Rattle.sheet.specs.Sheet.{serial, datums, codes, count, isUnit, rise, serialTests, countTests}
 use Rattle.sheet.specs.Inside.{laidOut, readOf}
 use Rattle.sheet.specs.declared.Layout.{Layout}
 
@@ -45,14 +46,23 @@ other-bits (negsuc n) s h = refl
 
 -- ---- after the serial; d, r and n are what the code's functions answer
 module _ (t : List ℕ) where
-  pub datums-cut : length t < 5 → refused 1 ≡ laidOut t
+  abbrev counts : Layout
+  counts = record { datums = datums t; points = count t }
+
+  -- by the first test that fails
+  stops : (n : ℕ) → FirstFails (countTests t) n → refused n ≡ laidOut t
   unfolding laidOut
-  datums-cut h = simp (lt-leb 5 (length t) h)
+  stops n f = sym (fails (countTests t) (gives counts) n f)
+
+  pub datums-cut : length t < 5 → refused 1 ≡ laidOut t
+  datums-cut h = stops 1 (inl (lt-leb 5 (length t) h, refl))
 
   module _ (counted : 5 ≤ length t) {d : ℕ} (is-d : d ≡ datums t) where
+    one : leb 5 (length t) ≡ true
+    one = le-leb 5 (length t) counted
+
     pub datums-over : 6 < d → refused 9 ≡ laidOut t
-    unfolding laidOut
-    datums-over h = simp (le-leb 5 (length t) counted, lt-leb (datums t) 6 (omega (arith, h, is-d)))
+    datums-over h = stops 9 (inr (one, inl (lt-leb (datums t) 6 (omega (arith, h, is-d)), refl)))
 
     -- the part that is lent
     pub codes-are : take (5 + d - 5) (drop 5 t) ≡ codes t
@@ -62,33 +72,46 @@ module _ (t : List ℕ) where
         ap (λ (n : ℕ). take n (drop 5 t)) e
 
     module _ (few : d ≤ 6) where
+      two : leb (datums t) 6 ≡ true
+      two = le-leb (datums t) 6 (omega (arith, few, is-d))
+
       pub codes-cut : length t < 5 + d → refused 1 ≡ laidOut t
-      unfolding laidOut
-      codes-cut h = simp (le-leb 5 (length t) counted, le-leb (datums t) 6 (omega (arith, few, is-d)), lt-leb (5 + datums t) (length t) (omega (arith, h, is-d)))
+      codes-cut h = stops 1 (inr (one, inr (two, inl (lt-leb (5 + datums t) (length t) (omega (arith, h, is-d)), refl))))
 
       module _ (listed : 5 + d ≤ length t) {r : Bool} (is-r : r ≡ rise 0 (codes t)) where
+        three : leb (5 + datums t) (length t) ≡ true
+        three = le-leb (5 + datums t) (length t) (omega (arith, listed, is-d))
+
         pub codes-wrong : not r ≡ true → refused 9 ≡ laidOut t
-        unfolding laidOut
-        codes-wrong h = simp (le-leb 5 (length t) counted, le-leb (datums t) 6 (omega (arith, few, is-d)), le-leb (5 + datums t) (length t) (omega (arith, listed, is-d)), ← is-r, not-true r h)
+        codes-wrong h = stops 9 (inr (one, inr (two, inr (three, inl (sym is-r ∙ not-true r h, refl)))))
 
         module _ (right : not r ≡ false) where
+          four : rise 0 (codes t) ≡ true
+          four = sym is-r ∙ not-false r right
+
           pub count-cut : length t < 5 + d + 2 → refused 1 ≡ laidOut t
-          unfolding laidOut
-          count-cut h = simp (le-leb 5 (length t) counted, le-leb (datums t) 6 (omega (arith, few, is-d)), le-leb (5 + datums t) (length t) (omega (arith, listed, is-d)), ← is-r, not-false r right, lt-leb (7 + datums t) (length t) (omega (arith, h, is-d)))
+          count-cut h = stops 1 (inr (one, inr (two, inr (three, inr (four, inl (lt-leb (7 + datums t) (length t) (omega (arith, h, is-d)), refl))))))
 
           module _ (known : 5 + d + 2 ≤ length t) {n : ℕ} (is-n : n ≡ count t) where
+            five : leb (7 + datums t) (length t) ≡ true
+            five = le-leb (7 + datums t) (length t) (omega (arith, known, is-d))
+
             pub count-over : 500 < n → refused 9 ≡ laidOut t
-            unfolding laidOut
-            count-over h = simp (le-leb 5 (length t) counted, le-leb (datums t) 6 (omega (arith, few, is-d)), le-leb (5 + datums t) (length t) (omega (arith, listed, is-d)), ← is-r, not-false r right, le-leb (7 + datums t) (length t) (omega (arith, known, is-d)), lt-leb (count t) 500 (omega (arith, h, is-n)))
+            count-over h = stops 9 (inr (one, inr (two, inr (three, inr (four, inr (five, inl (lt-leb (count t) 500 (omega (arith, h, is-n)), refl)))))))
 
             module _ (most : n ≤ 500) where
+              six : leb (count t) 500 ≡ true
+              six = le-leb (count t) 500 (omega (arith, most, is-n))
+
               pub wrong-length : (length t ≡ 5 + d + 2 + n * 9 → ⊥) → refused 1 ≡ laidOut t
-              unfolding laidOut
-              wrong-length h = simp (le-leb 5 (length t) counted, le-leb (datums t) 6 (omega (arith, few, is-d)), le-leb (5 + datums t) (length t) (omega (arith, listed, is-d)), ← is-r, not-false r right, le-leb (7 + datums t) (length t) (omega (arith, known, is-d)), le-leb (count t) 500 (omega (arith, most, is-n)), ne-eqb (length t) (7 + datums t + count t * 9) (λ e. h (omega (arith, e, is-d, is-n))))
+              wrong-length h = stops 1 (inr (one, inr (two, inr (three, inr (four, inr (five, inr (six, inl (ne-eqb (length t) (7 + datums t + count t * 9) (λ e. h (omega (arith, e, is-d, is-n))), refl))))))))
 
               pub all-there : length t ≡ 5 + d + 2 + n * 9 → _≡_ {A = Answer Layout} (gives (record { datums = d; points = n })) (laidOut t)
               unfolding laidOut
-              all-there h = simp (le-leb 5 (length t) counted, le-leb (datums t) 6 (omega (arith, few, is-d)), le-leb (5 + datums t) (length t) (omega (arith, listed, is-d)), ← is-r, not-false r right, le-leb (7 + datums t) (length t) (omega (arith, known, is-d)), le-leb (count t) 500 (omega (arith, most, is-n)), eq-eqb (length t) (7 + datums t + count t * 9) (omega (arith, h, is-d, is-n))) (λ i. gives (record { datums = is-d i; points = is-n i }))
+              all-there h =
+                  let seven = eq-eqb (length t) (7 + datums t + count t * 9) (omega (arith, h, is-d, is-n)) in
+                  (λ i. gives (record { datums = is-d i; points = is-n i }))
+                  ∙ sym (held (countTests t) (gives counts) (one, (two, (three, (four, (five, (six, (seven, tt))))))))
 
 -- ---- what passed them
 pub record Laid (t : List ℕ) (layout : Layout) : Type 0 where
@@ -102,46 +125,41 @@ pub record Laid (t : List ℕ) (layout : Layout) : Type 0 where
 pub laid : (t : List ℕ) (layout : Layout) → laidOut t ≡ gives layout → Laid t layout
 unfolding laidOut
 laid t layout h =
-    let value : Answer Layout = gives (record { datums = datums t; points = count t }) in
-    let seven : Answer Layout = provided (eqb (length t) (7 + datums t + count t * 9)) 1 value in
-    let six : Answer Layout = provided (leb (count t) 500) 9 seven in
-    let five : Answer Layout = provided (leb (7 + datums t) (length t)) 1 six in
-    let four : Answer Layout = provided (rise 0 (codes t)) 9 five in
-    let three : Answer Layout = provided (leb (5 + datums t) (length t)) 1 four in
-    let two : Answer Layout = provided (leb (datums t) 6) 9 three in
-    let a = passed (leb 5 (length t)) 1 two h in
-    let b = passed (leb (datums t) 6) 9 three (a .1) in
-    let c = passed (leb (5 + datums t) (length t)) 1 four (b .1) in
-    let d = passed (rise 0 (codes t)) 9 five (c .1) in
-    let e = passed (leb (7 + datums t) (length t)) 1 six (d .1) in
-    let f = passed (leb (count t) 500) 9 seven (e .1) in
-    let g = passed (eqb (length t) (7 + datums t + count t * 9)) 1 value (f .1) in
-    let same : _≡_ {A = Layout} (record { datums = datums t; points = count t }) layout = same-value (g .1) in
+    let (passed, told) = all-held (countTests t) (gives (counts t)) h in
+    let (_, (few, (_, (right, (_, (most, (long, _))))))) = passed in
+    let same : counts t ≡ layout = same-value told in
     record {
       is-datums = sym (ap (λ (l : Layout). l .datums) same);
       is-points = sym (ap (λ (l : Layout). l .points) same);
-      few = leb-true (datums t) 6 (b .0);
-      right = d .0;
-      most = leb-true (count t) 500 (f .0);
-      long = eqb-true (length t) (7 + datums t + count t * 9) (g .0);
+      few = leb-true (datums t) 6 few;
+      right = right;
+      most = leb-true (count t) 500 most;
+      long = eqb-true (length t) (7 + datums t + count t * 9) long;
     }
 
 -- ---- the serial; s is what the code reads
 module _ (unit : ℤ) (t : List ℕ) where
-  pub serial-cut : length t < 4 → refused 1 ≡ readOf unit t
+  refuses : (n : ℕ) → FirstFails (serialTests unit t) n → refused n ≡ readOf unit t
   unfolding readOf
-  serial-cut h = simp (lt-leb 4 (length t) h)
+  refuses n f = sym (fails (serialTests unit t) (laidOut t) n f)
+
+  pub serial-cut : length t < 4 → refused 1 ≡ readOf unit t
+  serial-cut h = refuses 1 (inl (lt-leb 4 (length t) h, refl))
 
   module _ (long : 4 ≤ length t) {s : ℕ} (is-s : s ≡ serial t) where
+    there : leb 4 (length t) ≡ true
+    there = le-leb 4 (length t) long
+
     pub serial-zero : s ≡ 0 → refused 9 ≡ readOf unit t
-    unfolding readOf
-    serial-zero h = simp (le-leb 4 (length t) long, eq-eqb (serial t) 0 (sym is-s ∙ h))
+    serial-zero h = refuses 9 (inr (there, inl (ap not (eq-eqb (serial t) 0 (sym is-s ∙ h)), refl)))
 
     module _ (some : s ≡ 0 → ⊥) where
+      not-zero : not (eqb (serial t) 0) ≡ true
+      not-zero = ap not (ne-eqb (serial t) 0 (λ e. some (is-s ∙ e)))
+
       pub serial-foreign : isUnit unit s ≡ false → refused 8 ≡ readOf unit t
-      unfolding readOf
-      serial-foreign h = simp (le-leb 4 (length t) long, ne-eqb (serial t) 0 (λ e. some (is-s ∙ e)), ← is-s, h)
+      serial-foreign h = refuses 8 (inr (there, inr (not-zero, inl (ap (isUnit unit) (sym is-s) ∙ h, refl))))
 
       pub serial-own : isUnit unit s ≡ true → laidOut t ≡ readOf unit t
       unfolding readOf
-      serial-own h = simp (le-leb 4 (length t) long, ne-eqb (serial t) 0 (λ e. some (is-s ∙ e)), ← is-s, h)
+      serial-own h = sym (held (serialTests unit t) (laidOut t) (there, (not-zero, (ap (isUnit unit) (sym is-s) ∙ h, tt))))
