@@ -432,7 +432,7 @@ def with_byte(n, weight, byte):
 
 
 def moved(place, i):
-    """The same near by, another for each i; eight of each eleven far away."""
+    """The same near by, another for each i; eight of each eleven far away, but for the third, which stays near."""
     code, latitude, longitude = place
     latitude, longitude = with_byte(latitude, 2 ** 8, i % 256), with_byte(longitude, 2 ** 8, 255 - i % 256)
     return code, latitude if i % 11 in (0, 4, 8) else with_byte(latitude, 2 ** 24, i % 256), longitude

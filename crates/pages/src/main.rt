@@ -1,6 +1,5 @@
 // A test program: the papers' points and the edges of the machine's numbers, through the compiled crates, a line each.
-// tests/pages.py works out what it must print from the papers, with arithmetic of its own. `rt try` also has it interpreted, and
-// stops that after 10,000,000 steps, of which it takes 9,300,000.
+// tests/pages.py works out what it must print from the papers, with arithmetic of its own.
 mod floats;
 mod points;
 mod quantities;

@@ -276,7 +276,8 @@ fn every_byte() {
 }
 
 // A point of a long sheet, by its place: the points of FIFTEEN in turn, with other third bytes of latitude and longitude, so
-// that no two are the same. Of each eleven, eight have another first byte of latitude too, and are refused.
+// that no two are the same. Of each eleven, eight have their place for the first byte of latitude too, and are refused, but for
+// place 2, which has that byte already.
 fn moved(place: usize) -> [u8; 9] {
     let from = 13 + place % 15 * 9;
     let by = (place % 256) as u8;

@@ -56,10 +56,6 @@ digits-back (b ∷ s) h =
     (joined (one .0) (rest .0), λ i. one .1 i ∷ rest .1 i)
 
 -- ---- a number in digits
-pub length-digits : (w n : ℕ) → length (digits w n) ≡ w
-unfolding digits
-length-digits w n = length-map (inPlaces 10 w n) byteOf ∙ places.in-places-long 10 w n
-
 pub all-digits : (w n : ℕ) → allDigits (digits w n) ≡ true
 unfolding digits
 all-digits w n = are-digits (inPlaces 10 w n) (places.places-below 10 (omega arith) w n)

@@ -11,6 +11,7 @@ use lib.Seq.{take-all}
 use borrow.Author.Tests.{le-leb, lt-leb, not-true, not-false}
 use mir.Syntax.{w64}
 use mir.Val.{Fits, SFits, toZ, ofZ}
+use Rattle.whole.proofs.Every.{every-same}
 use Rattle.whole.proofs.Words.{of}
 use Rattle.whole.specs.Every.{every}
 use Rattle.whole.specs.Places.{inPlaces}
@@ -27,10 +28,6 @@ use Rattle.sheet.proofs.Reading.{Laid, codes-are}
 use Rattle.sheet.proofs.Results.{records-long}
 
 -- ---- points and their records
-every-same : {A : Type 0} (f g : A → Bool) → ((x : A) → f x ≡ g x) → (xs : List A) → every f xs ≡ every g xs
-every-same f g h [] = refl
-every-same f g h (x ∷ xs) = λ i. h x i && every-same f g h xs i
-
 pieces-counted : (n width : ℕ) (bytes : List ℕ) → length (pieces n width bytes) ≡ n
 unfolding pieces
 pieces-counted zero width bytes = refl

@@ -1,6 +1,6 @@
 -- What document 01 asks of the unit sheet and its result. Stated over specs/ alone. Assumes nothing.
 use mathlib.Core.Path.{_≡_, refl, sym, ap, _∙_, subst}
-use mathlib.Core.Bool.{true, false, false≢true}
+use mathlib.Core.Bool.{true, false, not, false≢true}
 use mathlib.Core.List.{List, [], _∷_, flatMap}
 use mathlib.Core.Logic.{_↔_, _⊎_, inl, inr, ⊎-elim}
 use Prim.Native.Nat.{ℕ, zero, suc, _+_, _*_, _<_, _≤_, _^_}
@@ -8,15 +8,17 @@ use native.Mathlib.Omega.{arith}
 use lib.Dec.{eqb}
 use lib.IntN.{ℤ, pos, negℤ}
 use lib.ListN.{length, getD, replicate}
-use borrow.Author.Tests.{leb-true, le-leb, eqb-false, not-true}
+use borrow.Author.Tests.{leb-true, le-leb, eqb-false, eq-eqb, not-true}
 use Rattle.whole.specs.Places.{fromPlaces, inPlaces}
 use Rattle.whole.proofs.Bools.{joined}
 use Rattle.kinds.specs.Answer.{Answer, gives, refused, AllHold, FirstFails, following, refusalOf, placed, counted, lent}
 use Rattle.kinds.specs.Kinds.{within, isFourBytes}
 use Rattle.kinds.specs.Bytes.{part}
+use Rattle.kinds.proofs.Demands.{by-number}
 use Rattle.kinds.proofs.Tested.{of-four-bytes}
 use Rattle.datum.specs.Page.{Family, shift, geoid, isEither}
-use Rattle.datum.specs.Point.{isCode, pageOf, valuesOf}
+use Rattle.datum.specs.Point.{isCode, pageOf, inRange, inArea, valuesOf}
+use Rattle.datum.specs.Point as rule
 use Rattle.datum.specs.Exact.{exact, AllWithin, demanded}
 use Rattle.datum.proofs.Demands as datum
 use Rattle.sheet.specs.Numbers.{number, inBytes, complement, signed}
@@ -107,11 +109,17 @@ module _ (unit : ℤ) (bytes : List ℕ) (room : ℕ) where
   pub given-one-of : (n : ℕ) → workOf unit bytes room ≡ refused n → (n ≡ 1) ⊎ ((n ≡ 9) ⊎ ((n ≡ 8) ⊎ (n ≡ 7)))
   given-one-of n h = works.given-one-of unit bytes room n h
 
--- where two are due, the first in the order of the bytes; then a code listed twice, a byte that follows, a lent buffer too
--- short, and a sheet of 7 bytes, with no datums and no points, accepted
+-- a sheet whose serial is zero gives 9 to every unit, to one whose number is zero too
+pub zero-serial : (unit : ℤ) (bytes : List ℕ) (room : ℕ) → 4 ≤ length bytes → serial bytes ≡ 0 → workOf unit bytes room ≡ refused 9
+zero-serial unit bytes room long none = refused-where unit bytes room 9 .1 (inl (inr (le-leb 4 (length bytes) long, inl (ap not (eq-eqb (serial bytes) 0 none), refl))))
+
+-- where two are due, the first in the order of the bytes; with them units 0 and -1, and then a code listed twice, a byte that
+-- follows, a lent buffer too short, and a sheet of 7 bytes, with no datums and no points, accepted
 pub record Orders : Type 0 where
   pub cut-and-zero : workOf (pos 1) (0 ∷ 0 ∷ 0 ∷ []) 0 ≡ refused 1
   pub zero-and-foreign : workOf (pos 1) (0 ∷ 0 ∷ 0 ∷ 0 ∷ []) 0 ≡ refused 9
+  pub zero-for-unit-zero : workOf (pos 0) (0 ∷ 0 ∷ 0 ∷ 0 ∷ 0 ∷ 0 ∷ 0 ∷ []) 6 ≡ refused 9
+  pub unit-below-zero : workOf (negℤ (pos 1)) (255 ∷ 255 ∷ 255 ∷ 255 ∷ 0 ∷ 0 ∷ 0 ∷ []) 6 ≡ refused 8
   pub foreign-and-cut : workOf (pos 1) (0 ∷ 0 ∷ 0 ∷ 2 ∷ []) 0 ≡ refused 8
   pub over-and-cut : workOf (pos 1) (0 ∷ 0 ∷ 0 ∷ 1 ∷ 7 ∷ []) 0 ≡ refused 9
   pub cut-and-wrong : workOf (pos 1) (0 ∷ 0 ∷ 0 ∷ 1 ∷ 2 ∷ 7 ∷ []) 0 ≡ refused 1
@@ -129,6 +137,8 @@ unfolding number inBytes fromPlaces inPlaces serial datums codes count body poin
 orders = record {
   cut-and-zero = refl;
   zero-and-foreign = refl;
+  zero-for-unit-zero = refl;
+  unit-below-zero = refl;
   foreign-and-cut = refl;
   over-and-cut = refl;
   cut-and-wrong = refl;
@@ -220,15 +230,35 @@ module _ (unit : ℤ) (bytes : List ℕ) (room : ℕ) {result : List ℕ} (h : w
     pub numbers-at : recordNumbers (recordAt k result) ≡ valuesOf (pos 0) (answerAt (pointAt k bytes))
     numbers-at = ap recordNumbers record-at ∙ places.point-says (pointAt k bytes) .1
 
-    -- a point refused has its number and twelve zero bytes
-    pub refused-at : (n : ℕ) → answerAt (pointAt k bytes) ≡ refused n → recordAt k result ≡ n ∷ replicate 12 0
-    unfolding inRecord inBytes inPlaces complement flatMap
-    refused-at n e = record-at ∙ ap inRecord e
-
     code-is : isCode (pos code) ≡ true
     code-is =
         let (_, (_, (_, (_, (_, (_, (right, (_, (_, (_, (all, _))))))))))) = worked-where unit bytes room result .0 h .0 in
         places.code-at bytes right all k place
+
+    -- demand 2: the first byte is 3 exactly where the point is out of range, 6 exactly where it is in range and outside its
+    -- area, and otherwise 0, and the numbers are those that the printed coefficients give under the working rule
+    pub given-3-at : (recordRefusal (recordAt k result) ≡ 3) ↔ (inRange latitude longitude ≡ false)
+    given-3-at = (
+      (λ e. datum.given-3 isEither (pos code) latitude longitude .0 (by-number (answerAt (pointAt k bytes)) 3 (omega arith) .1 (sym refusal-at ∙ e)) .1 .1),
+      (λ e. refusal-at ∙ ap refusalOf (datum.given-3 isEither (pos code) latitude longitude .1 (code-is, (refl, e)))),
+    )
+
+    pub given-6-at : (recordRefusal (recordAt k result) ≡ 6) ↔ ((inRange latitude longitude ≡ true) × (inArea (pageOf (pos code)) latitude longitude ≡ false))
+    given-6-at = (
+      (λ e. datum.given-6 isEither (pos code) latitude longitude .0 (by-number (answerAt (pointAt k bytes)) 6 (omega arith) .1 (sym refusal-at ∙ e)) .1 .1),
+      (λ e. refusal-at ∙ ap refusalOf (datum.given-6 isEither (pos code) latitude longitude .1 (code-is, (refl, e)))),
+    )
+
+    pub worked-at : inRange latitude longitude ≡ true → inArea (pageOf (pos code)) latitude longitude ≡ true
+        → (recordRefusal (recordAt k result) ≡ 0) × (recordNumbers (recordAt k result) ≡ valuesOf (pos 0) (gives (rule.worked (pageOf (pos code)) latitude longitude)))
+    worked-at ranged inside =
+        let e = datum.answered isEither (pos code) latitude longitude (rule.worked (pageOf (pos code)) latitude longitude) .1 ((code-is, refl), ((ranged, inside), refl)) in
+        (refusal-at ∙ ap refusalOf e, numbers-at ∙ ap (valuesOf (pos 0)) e)
+
+    -- a point refused has its number and twelve zero bytes
+    pub refused-at : (n : ℕ) → answerAt (pointAt k bytes) ≡ refused n → recordAt k result ≡ n ∷ replicate 12 0
+    unfolding inRecord inBytes inPlaces complement flatMap
+    refused-at n e = record-at ∙ ap inRecord e
 
     -- 'A point refused with 3 or 6 doesn't refuse the sheet': `made-works` asks nothing of where the points are; and no point
     -- of a sheet that is worked has another number

@@ -12,6 +12,7 @@ use borrow.Author.Tests.{ltb-true, leb-true, eqb-true, eqb-false, not-true, lt-l
 use mir.Syntax.{w32}
 use mir.Val.{SFits}
 use Rattle.whole.proofs.Bools.{both, joined}
+use Rattle.whole.proofs.Every.{every-cut, every-weaker}
 use Rattle.whole.specs.Every.{every}
 use Rattle.whole.specs.Places.{inPlaces}
 use Rattle.kinds.specs.Answer.{gives, AllHold}
@@ -29,23 +30,6 @@ use Rattle.sheet.proofs.Calls.{points-counted}
 use Rattle.sheet.proofs.Works.{is-unit}
 
 -- ---- lists
-module _ {A : Type 0} (f : A → Bool) where
-  -- what every one passes, every one in a part passes
-  every-cut : (n : ℕ) (l : List A) → every f l ≡ true → (every f (take n l) ≡ true) × (every f (drop n l) ≡ true)
-  every-cut zero l h = (refl, h)
-  every-cut (suc n) [] h = (refl, refl)
-  every-cut (suc n) (x ∷ l) h =
-      let p = both (f x) (every f l) h in
-      let rest = every-cut n l (p .1) in
-      (joined (p .0) (rest .0), rest .1)
-
-  -- and a weaker test
-  every-weaker : (g : A → Bool) → ((x : A) → f x ≡ true → g x ≡ true) → (l : List A) → every f l ≡ true → every g l ≡ true
-  every-weaker g k [] h = refl
-  every-weaker g k (x ∷ l) h =
-      let p = both (f x) (every f l) h in
-      joined (k x (p .0)) (every-weaker g k l (p .1))
-
 flat-long : {A B : Type 0} (f : A → List B) (w : ℕ) → ((x : A) → length (f x) ≡ w) → (l : List A) → length (flatMap f l) ≡ length l * w
 unfolding flatMap
 flat-long f w h [] = omega arith

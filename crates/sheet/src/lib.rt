@@ -13,15 +13,15 @@ ghost use lib.ListN.{length, drop};
 ghost use Rattle.kinds.specs.Answer.{gives, counted, lent};
 ghost use Rattle.kinds.specs.Cases.{written};
 ghost use Rattle.sheet.specs.Numbers.{inBytes};
-ghost use Rattle.sheet.specs.Sheet.{rise};
-ghost use Rattle.sheet.specs.Result.{workOf};
+ghost use Rattle.sheet.specs.Sheet.{pointLength, rise};
+ghost use Rattle.sheet.specs.Result.{recordLength, workOf};
 ghost use Rattle.sheet.specs.Inside.{layoutAnswer, readOf, laidOut, flags, flagOf, allFlagged, recordOf, worked, records, finished};
 
 // Works the sheet of a unit: writes the result to the start of a lent buffer and says how many bytes, 6 and 13 for each point.
 // Refused, in the order of the sheet's bytes: 1 where it is cut or bytes follow, 9 where its serial is zero, a count is over
 // its limit or the codes are wrong, 8 where it is another unit's; then 9 where a point's code is not listed, 7 where the result
 // has no room. A point that is out of range or outside its area does not refuse the sheet: the result has its number.
-// A unit whose own number is no serial, 1 to 4294967295, is given 8 for any sheet with a serial.
+// A unit whose own number is not 1 to 4294967295 is given 8 for any sheet with a serial.
 pub fn work(unit: i64, sheet: &[u8], result: &mut [u8]) -> WrittenAnswer
     ensures { λ r. ⌜ written r ≡ counted (workOf unit (now (sheet .entry)) (length (now (result .entry)))) ⌝ }
     ensures { λ r. ⌜ now (result .exit) ≡ lent (workOf unit (now (sheet .entry)) (length (now (result .entry)))) (now (result .entry)) ⌝ }
@@ -53,25 +53,27 @@ const MOST_DATUMS: usize = 6;
 
 const MOST_POINTS: usize = 500;
 
-// where the count of datums and the codes are in a sheet
-const DATUMS: usize = 4;
+// in bytes: a serial, a count of points, a point; the start of a result, and a point's record in it
+const SERIAL: usize = 4;
 
-const CODES: usize = 5;
-
-// in bytes: the count of points, a point; the start of a result, a point's record in it
 const COUNT: usize = 2;
 
 const POINT: usize = 9;
 
-const HEAD: usize = 6;
+const START: usize = SERIAL + COUNT;
 
 const RECORD: usize = 13;
+
+// where the count of datums and the codes are in a sheet
+const DATUMS: usize = SERIAL;
+
+const CODES: usize = DATUMS + 1;
 
 // Tests the serial, and then the rest but for the points' codes.
 fn read(unit: i64, sheet: &[u8]) -> LayoutAnswer
     ensures { λ r. ⌜ layoutAnswer r ≡ readOf unit (now (sheet .entry)) ⌝ }
 {
-    if sheet.len() < DATUMS {
+    if sheet.len() < SERIAL {
         return LayoutAnswer::Refused(Refusal::Length);
     }
     let serial = number::four(sheet, 0);
@@ -94,18 +96,18 @@ fn laid_out(sheet: &[u8]) -> LayoutAnswer
     if MOST_DATUMS < datums {
         return LayoutAnswer::Refused(Refusal::Sheet);
     }
-    let counted = CODES + datums;
-    if sheet.len() < counted {
+    let count_at = CODES + datums;
+    if sheet.len() < count_at {
         return LayoutAnswer::Refused(Refusal::Length);
     }
-    if !rise(&sheet[CODES..counted]) {
+    if !rise(&sheet[CODES..count_at]) {
         return LayoutAnswer::Refused(Refusal::Sheet);
     }
-    let body = counted + COUNT;
+    let body = count_at + COUNT;
     if sheet.len() < body {
         return LayoutAnswer::Refused(Refusal::Length);
     }
-    let points = number::two(sheet, counted);
+    let points = number::two(sheet, count_at);
     if MOST_POINTS < points {
         return LayoutAnswer::Refused(Refusal::Sheet);
     }
@@ -158,7 +160,7 @@ impl Flags {
 
 // Whether every point's code is listed.
 fn all_listed(body: &[u8], points: usize, listed: Flags) -> bool
-    requires { ⌜ points * 9 ≤ length (now body) ⌝ }
+    requires { ⌜ points * pointLength ≤ length (now body) ⌝ }
     ensures { λ r. ⌜ r ≡ allFlagged (listed .0) points (now (body .entry)) ⌝ }
 {
     let mut i = 0;
@@ -197,7 +199,7 @@ fn in_record(refusal: u8, first: i32, second: i32, third: i32) -> [u8; 13]
 
 // The record of the point that 9 bytes of a sheet say.
 fn worked(point: &[u8]) -> [u8; 13]
-    requires { ⌜ length (now point) ≡ 9 ⌝ }
+    requires { ⌜ length (now point) ≡ pointLength ⌝ }
     ensures { λ r. ⌜ r ≡ worked (now (point .entry)) ⌝ }
 {
     let latitude = number::signed(number::four(point, 1));
@@ -216,9 +218,9 @@ fn worked(point: &[u8]) -> [u8; 13]
 
 // The records of all points, at the start of out.
 fn records(body: &[u8], points: usize, out: &mut [u8])
-    requires { ⌜ points * 9 ≤ length (now body) ⌝ }
-    requires { ⌜ points * 13 ≤ length (now out) ⌝ }
-    ensures { λ _. ⌜ now (out .exit) ≡ records points (now (body .entry)) ++ drop (points * 13) (now (out .entry)) ⌝ }
+    requires { ⌜ points * pointLength ≤ length (now body) ⌝ }
+    requires { ⌜ points * recordLength ≤ length (now out) ⌝ }
+    ensures { λ _. ⌜ now (out .exit) ≡ records points (now (body .entry)) ++ drop (points * recordLength) (now (out .entry)) ⌝ }
 {
     let mut i = 0;
     while i < points {
@@ -233,9 +235,9 @@ fn records(body: &[u8], points: usize, out: &mut [u8])
 // The serial, the count and the records, at the start of a result that has room for them.
 fn put(serial: u32, body: &[u8], points: usize, result: &mut [u8])
     requires { ⌜ points ≤ 500 ⌝ }
-    requires { ⌜ points * 9 ≤ length (now body) ⌝ }
-    requires { ⌜ 6 + points * 13 ≤ length (now result) ⌝ }
-    ensures { λ _. ⌜ now (result .exit) ≡ inBytes 4 serial ++ inBytes 2 points ++ records points (now (body .entry)) ++ drop (6 + points * 13) (now (result .entry)) ⌝ }
+    requires { ⌜ points * pointLength ≤ length (now body) ⌝ }
+    requires { ⌜ 6 + points * recordLength ≤ length (now result) ⌝ }
+    ensures { λ _. ⌜ now (result .exit) ≡ inBytes 4 serial ++ inBytes 2 points ++ records points (now (body .entry)) ++ drop (6 + points * recordLength) (now (result .entry)) ⌝ }
 {
     let s = number::in_four(serial);
     let head = [
@@ -247,7 +249,7 @@ fn put(serial: u32, body: &[u8], points: usize, result: &mut [u8])
         (points % 256) as u8,
     ];
     bytes::copy(&head, result);
-    records(body, points, &mut result[HEAD..]);
+    records(body, points, &mut result[START..]);
 }
 
 // The rest of the work on a sheet that passed the tests of `read`.
@@ -257,10 +259,10 @@ fn finished(layout: Layout, sheet: &[u8], result: &mut [u8]) -> WrittenAnswer
     ensures { λ r. ⌜ now (result .exit) ≡ lent (finished (now (sheet .entry)) (length (now (result .entry)))) (now (result .entry)) ⌝ }
 {
     let points = layout.points;
-    let bytes = HEAD + points * RECORD;
-    let counted = CODES + layout.datums;
-    let body = &sheet[counted + COUNT..];
-    let all = all_listed(body, points, listed(&sheet[CODES..counted]));
+    let bytes = START + points * RECORD;
+    let count_at = CODES + layout.datums;
+    let body = &sheet[count_at + COUNT..];
+    let all = all_listed(body, points, listed(&sheet[CODES..count_at]));
     if !all {
         return WrittenAnswer::Refused(Refusal::Sheet);
     }

@@ -17,6 +17,8 @@ pub mod Divided
 pub mod Bools
 -- a test computed for every number below n
 pub mod Below
+-- a test of every one of a list
+pub mod Every
 -- a number in places of a base, and back
 pub mod Places
 -- what document 01 asks of every rounding

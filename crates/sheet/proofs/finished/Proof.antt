@@ -11,8 +11,8 @@ mul-bytes c = records-fit _ (laid _ _ (c .before .before .pre))
 add-bytes : tie.Need-add-bytes
 add-bytes c = result-fits _ (laid _ _ (c .before .before .pre))
 
-add-counted : tie.Need-add-counted
-add-counted c = five-more _ (laid _ _ (c .before .before .before .pre))
+add-count-at : tie.Need-add-count-at
+add-count-at c = five-more _ (laid _ _ (c .before .before .before .pre))
 
 add-body : tie.Need-add-body
 add-body c = seven-more _ (laid _ _ (c .before .before .before .pre))
@@ -69,7 +69,7 @@ finished-spec =
     (tie.spec
     mul-bytes
     add-bytes
-    add-counted
+    add-count-at
     add-body
     sub-body
     part-body-start

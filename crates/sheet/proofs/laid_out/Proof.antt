@@ -18,8 +18,8 @@ cast-datums c = search needs
 returns-2 : tie.Need-returns-2
 returns-2 c = datums-over _ (c .before .before .if1 .left) (datums-is _ (c .before .one .ensures .0)) (c .if2 .taken)
 
-add-counted : tie.Need-add-counted
-add-counted c = search needs
+add-count-at : tie.Need-add-count-at
+add-count-at c = search needs
 
 returns-3 : tie.Need-returns-3
 returns-3 c = codes-cut _ (c .before .before .before .if1 .left) (datums-is _ (c .before .before .one .ensures .0)) (c .before .if2 .left) (c .if3 .taken)
@@ -89,7 +89,7 @@ laid-out-spec =
     one-requires
     cast-datums
     returns-2
-    add-counted
+    add-count-at
     returns-3
     sub-rise
     part-rise-start

@@ -1,0 +1,29 @@
+-- A test of every one of a list: of a part, of a weaker test, of the same test said otherwise. Assumes nothing.
+use mathlib.Core.Path.{_≡_, refl}
+use mathlib.Core.Bool.{Bool, true, _&&_}
+use mathlib.Core.List.{List, [], _∷_}
+use Prim.Native.Nat.{ℕ, zero, suc}
+use lib.ListN.{take, drop}
+use Rattle.whole.specs.Every.{every}
+use Rattle.whole.proofs.Bools.{both, joined}
+
+module _ {A : Type 0} (f : A → Bool) where
+  -- what every one passes, every one in a part passes
+  pub every-cut : (n : ℕ) (l : List A) → every f l ≡ true → (every f (take n l) ≡ true) × (every f (drop n l) ≡ true)
+  every-cut zero l h = (refl, h)
+  every-cut (suc n) [] h = (refl, refl)
+  every-cut (suc n) (x ∷ l) h =
+      let p = both (f x) (every f l) h in
+      let rest = every-cut n l (p .1) in
+      (joined (p .0) (rest .0), rest .1)
+
+  -- and a weaker test
+  pub every-weaker : (g : A → Bool) → ((x : A) → f x ≡ true → g x ≡ true) → (l : List A) → every f l ≡ true → every g l ≡ true
+  every-weaker g k [] h = refl
+  every-weaker g k (x ∷ l) h =
+      let p = both (f x) (every f l) h in
+      joined (k x (p .0)) (every-weaker g k l (p .1))
+
+  pub every-same : (g : A → Bool) → ((x : A) → f x ≡ g x) → (l : List A) → every f l ≡ every g l
+  every-same g h [] = refl
+  every-same g h (x ∷ l) = λ i. h x i && every-same g h l i
