@@ -13,18 +13,23 @@ import sys
 import tempfile
 from concurrent.futures import ThreadPoolExecutor
 
-PROGRAM = 'pages'
+# the test program that runs a crate, where it is not `pages`
+PROGRAMS = {'sheet': 'sheets'}
 
 
-def tried(edit):
-    """What `rt try` says of the test program in a copy of the sources with this edit: its status and its words."""
+def program(edit):
+    return PROGRAMS.get(edit.split('/')[1], 'pages')
+
+
+def tried(name, edit=None):
+    """What `rt try` says of a test program in a copy of the sources with this edit: its status and its words."""
     room = tempfile.mkdtemp()
     try:
         shutil.copy('crates.txt', room)
         shutil.copytree('crates', os.path.join(room, 'crates'))
         if edit:
             apply(edit, room)
-        run = subprocess.run(['rt', 'try', PROGRAM], cwd=room, capture_output=True, text=True)
+        run = subprocess.run(['rt', 'try', name], cwd=room, capture_output=True, text=True)
         return run.returncode, run.stdout + run.stderr
     finally:
         shutil.rmtree(room)
@@ -52,16 +57,17 @@ def of_source(edit):
 
 
 wrong = []
-status, said = tried(None)
-if status != 0:
-    wrong.append(f'{PROGRAM}, unedited, ends with {status}: {said[:200]}')
+for name in ('pages', *PROGRAMS.values()):
+    status, said = tried(name)
+    if status != 0:
+        wrong.append(f'{name}, unedited, ends with {status}: {said[:200]}')
 edits = [e for e in sorted(glob.glob('crates/*/must-fail/*.edit')) if of_source(e)]
 with ThreadPoolExecutor(os.cpu_count()) as pool:
-    runs = list(pool.map(tried, edits))
+    runs = list(pool.map(lambda e: tried(program(e), e), edits))
 for edit, (status, said) in zip(edits, runs):
     if status == 0:
-        wrong.append(f'{edit}: {PROGRAM} prints what it must all the same')
+        wrong.append(f'{edit}: {program(edit)} prints what it must all the same')
     elif 'FAIL: ' not in said:
         wrong.append(f'{edit}: it was not run: {said[:200]}')
-print('\n'.join(wrong) or f'wrong programs: {len(edits)} edits, each seen to go wrong in {PROGRAM}')
+print('\n'.join(wrong) or f'wrong programs: {len(edits)} edits, each seen to go wrong in its test program')
 sys.exit(1 if wrong or not edits else 0)

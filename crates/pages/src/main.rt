@@ -3,22 +3,11 @@
 mod floats;
 mod points;
 mod quantities;
-mod sheets;
 mod texts;
 
 use kinds::Refusal;
-use kinds::WrittenAnswer;
 use libc::STDOUT_FILENO;
-
-pub(crate) const DIGITS: [u8; 16] = *b"0123456789abcdef";
-
-pub(crate) fn print(before: &[u8], n: i64) {
-    io::write_all(STDOUT_FILENO, before);
-    if n < 0 {
-        io::write_all(STDOUT_FILENO, b"-");
-    }
-    io::print_decimal(STDOUT_FILENO, whole::size(n));
-}
+use printing::print;
 
 pub(crate) fn print_i32(before: &[u8], n: i32) {
     print(before, n as i64);
@@ -26,23 +15,6 @@ pub(crate) fn print_i32(before: &[u8], n: i32) {
 
 pub(crate) fn refused(why: Refusal) {
     print(b" refused ", why.number() as i64);
-}
-
-// The digit of a number below 16.
-pub(crate) fn digit(n: u8) {
-    io::write_all(STDOUT_FILENO, &[DIGITS[(n % 16) as usize]]);
-}
-
-// What was written, as the number of its bytes in brackets, or the digit of the refusal.
-pub(crate) fn written(answer: WrittenAnswer) {
-    match answer {
-        WrittenAnswer::Gives(n) => {
-            io::write_all(STDOUT_FILENO, b"(");
-            io::print_decimal(STDOUT_FILENO, n as u64);
-            io::write_all(STDOUT_FILENO, b")");
-        }
-        WrittenAnswer::Refused(why) => digit(why.number()),
-    }
 }
 
 // n, n over each of eight divisors, and over the scale by the function that has it as a constant.
@@ -110,6 +82,5 @@ fn main() {
     texts::all();
     floats::all();
     points::all();
-    sheets::all();
     io::write_all(STDOUT_FILENO, b"\n");
 }

@@ -16,14 +16,14 @@ fn number(n: i32) {
 fn latitude(text: &[u8]) {
     match position::read_latitude(text) {
         LocalLatitudeAnswer::Gives(x) => number(x.ms()),
-        LocalLatitudeAnswer::Refused(why) => super::digit(why.number()),
+        LocalLatitudeAnswer::Refused(why) => printing::digit(why.number()),
     }
 }
 
 fn longitude(text: &[u8]) {
     match position::read_longitude(text) {
         LocalLongitudeAnswer::Gives(x) => number(x.ms()),
-        LocalLongitudeAnswer::Refused(why) => super::digit(why.number()),
+        LocalLongitudeAnswer::Refused(why) => printing::digit(why.number()),
     }
 }
 
@@ -41,7 +41,7 @@ fn bytes_at(text: &mut [u8], place: usize)
     requires { ⌜ length (now text) ≡ 12 ⌝ }
     requires { ⌜ place < 12 ⌝ }
 {
-    super::print(b"\nbyte ", place as i64);
+    printing::print(b"\nbyte ", place as i64);
     io::write_all(STDOUT_FILENO, b": ");
     let kept = text[place];
     let mut b: u32 = 0;
@@ -68,7 +68,7 @@ fn lengths(text: &[u8])
 }
 
 fn put(answer: WrittenAnswer, out: &[u8]) {
-    super::written(answer);
+    printing::written(answer);
     io::write_all(STDOUT_FILENO, out);
 }
 
@@ -90,8 +90,8 @@ fn longitude_into(ms: i64, room: usize, out: &mut [u8])
 fn into(ms: i64, room: usize)
     requires { ⌜ room ≤ 14 ⌝ }
 {
-    super::print(b"\n", ms);
-    super::print(b" into ", room as i64);
+    printing::print(b"\n", ms);
+    printing::print(b" into ", room as i64);
     io::write_all(STDOUT_FILENO, b": ");
     latitude_into(ms, room, &mut [b'#'; 14]);
     io::write_all(STDOUT_FILENO, b" ");

@@ -1,11 +1,11 @@
--- `pages::sheets::cut` is safe and ends. Assumes nothing.
+-- `sheets::cut` is safe and ends. Assumes nothing.
 use mathlib.Core.Path.{_≡_, sym}
 use Prim.Native.Nat.{_≤_, _-_}
 use lib.ListN.{length}
 use lib.Seq.{length-take-le}
 use borrow.Author.Needs.{needs}
-use Rattle.pages.proofs.sheets.cut.Statement.{statement}
-use Rattle.pages.proofs.sheets.cut.Tie as tie
+use Rattle.sheets.proofs.cut.Statement.{statement}
+use Rattle.sheets.proofs.cut.Tie as tie
 
 abbrev Inv-loop : tie.InvT-loop
 Inv-loop name longer out₀ n₀ out n = (length out ≡ 47) × (n ≤ 39)

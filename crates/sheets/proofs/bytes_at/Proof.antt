@@ -1,16 +1,16 @@
--- `pages::sheets::bytes_at` is safe and ends. Assumes nothing.
+-- `sheets::bytes_at` is safe and ends. Assumes nothing.
 use mathlib.Core.Path.{_≡_}
-use Prim.Native.Nat.{_<_, _-_}
+use Prim.Native.Nat.{_-_, _≤_}
 use lib.ListN.{length}
 use borrow.Author.Needs.{needs}
-use Rattle.pages.proofs.sheets.bytes_at.Statement.{statement}
-use Rattle.pages.proofs.sheets.bytes_at.Tie as tie
+use Rattle.sheets.proofs.bytes_at.Statement.{statement}
+use Rattle.sheets.proofs.bytes_at.Tie as tie
 
 abbrev Inv-loop : tie.InvT-loop
-Inv-loop place step sheet₀ out₀ b₀ sheet out b = (length sheet ≡ 18) × (length out ≡ 47) × (b < 512)
+Inv-loop place sheet₀ out₀ b₀ sheet out b = (length sheet ≡ 18) × (length out ≡ 47) × (b ≤ 256)
 
 abbrev μ-loop : tie.MeasureT-loop
-μ-loop place step sheet₀ out₀ b₀ sheet out b = 512 - b
+μ-loop place sheet₀ out₀ b₀ sheet out b = 256 - b
 
 slice-aggregate-print : tie.Need-slice-aggregate-print Inv-loop μ-loop
 slice-aggregate-print c = search needs

@@ -1,11 +1,11 @@
--- `pages::sheets::counted` is safe and ends. Assumes nothing.
+-- `sheets::counted` is safe and ends. Assumes nothing.
 use mathlib.Core.Path.{sym}
 use native.Mathlib.Omega.{arith}
 use lib.ListN.{length-set}
 use lib.Seq.{length-take-le}
 use borrow.Author.Needs.{needs}
-use Rattle.pages.proofs.sheets.counted.Statement.{statement}
-use Rattle.pages.proofs.sheets.counted.Tie as tie
+use Rattle.sheets.proofs.counted.Statement.{statement}
+use Rattle.sheets.proofs.counted.Tie as tie
 
 slice-aggregate-print : tie.Need-slice-aggregate-print
 slice-aggregate-print c = search needs

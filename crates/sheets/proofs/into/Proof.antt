@@ -1,9 +1,9 @@
--- `pages::sheets::into` is safe and ends. Assumes nothing.
+-- `sheets::into` is safe and ends. Assumes nothing.
 use mathlib.Core.Path.{sym}
 use lib.Seq.{length-take-le}
 use borrow.Author.Needs.{needs}
-use Rattle.pages.proofs.sheets.into.Statement.{statement}
-use Rattle.pages.proofs.sheets.into.Tie as tie
+use Rattle.sheets.proofs.into.Statement.{statement}
+use Rattle.sheets.proofs.into.Tie as tie
 
 slice-relend-prefix-work : tie.Need-slice-relend-prefix-work
 slice-relend-prefix-work c = search needs

@@ -1,9 +1,9 @@
--- `pages::sheets::remainder` is safe and ends. Assumes nothing.
+-- `sheets::remainder` is safe and ends. Assumes nothing.
 use Prim.Native.Nat.{_<_, _≤_, _-_}
 use lib.ListN.{length}
 use borrow.Author.Needs.{needs}
-use Rattle.pages.proofs.sheets.remainder.Statement.{statement}
-use Rattle.pages.proofs.sheets.remainder.Tie as tie
+use Rattle.sheets.proofs.remainder.Statement.{statement}
+use Rattle.sheets.proofs.remainder.Tie as tie
 
 abbrev Inv-loop : tie.InvT-loop
 Inv-loop bytes left₀ i₀ t4 left i = (i ≤ length bytes) × (left < 1000000007)

@@ -1,10 +1,10 @@
--- `pages::sheets::filled` is safe and ends. Assumes nothing.
+-- `sheets::filled` is safe and ends. Assumes nothing.
 use mathlib.Core.Path.{_≡_}
 use Prim.Native.Nat.{_≤_, _-_}
 use lib.ListN.{length}
 use borrow.Author.Needs.{needs}
-use Rattle.pages.proofs.sheets.filled.Statement.{statement}
-use Rattle.pages.proofs.sheets.filled.Tie as tie
+use Rattle.sheets.proofs.filled.Statement.{statement}
+use Rattle.sheets.proofs.filled.Tie as tie
 
 abbrev Inv-loop : tie.InvT-loop
 Inv-loop sheet₀ i₀ sheet i = (length sheet ≡ 4522) × (i ≤ 501)

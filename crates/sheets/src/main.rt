@@ -1,5 +1,6 @@
-// The unit sheet: sheets for their own unit and for others, each refusal and two due at once, sheets cut at every length and
-// changed at every place, lent buffers that are too short, and as many points as a sheet may have.
+// A test program, the unit sheet: sheets for their own unit and for others, each refusal and two due at once, sheets cut at every length and
+// changed at every place, lent buffers that are too short, and as many points as a sheet may have. tests/sheets.py works out
+// what it must print from the papers.
 use kinds::WrittenAnswer;
 use libc::STDOUT_FILENO;
 ghost use mathlib.Core.Path.{_≡_};
@@ -43,19 +44,13 @@ fn wide(byte: u8) -> usize
 }
 
 // A space, and two digits a byte.
-fn hex(bytes: &[u8])
-    requires { ⌜ length (now bytes) ≤ 6508 ⌝ }
-{
-    let mut text = [b' '; 13_017];
+fn hex(bytes: &[u8]) {
+    io::write_all(STDOUT_FILENO, b" ");
     let mut i = 0;
     while i < bytes.len() {
-        let byte = wide(bytes[i]);
-        text[2 * i + 1] = super::DIGITS[byte / 16];
-        text[2 * i + 2] = super::DIGITS[byte % 16];
+        io::print_hex(STDOUT_FILENO, wide(bytes[i]) as u64, 2);
         i += 1;
     }
-    let end = 2 * bytes.len() + 1;
-    io::write_all(STDOUT_FILENO, &text[..end]);
 }
 
 // What the number that the bytes say leaves by a prime: another number where one byte is changed or two are exchanged.
@@ -66,16 +61,15 @@ fn remainder(bytes: &[u8]) {
         left = (left * 256 + wide(bytes[i])) % 1_000_000_007;
         i += 1;
     }
-    super::print(b" ", left as i64);
+    printing::print(b" ", left as i64);
 }
 
 // A sheet, worked into the start of a buffer, all of which is shown.
 fn into(unit: i64, sheet: &[u8], room: usize, out: &mut [u8])
     requires { ⌜ room ≤ length (now out) ⌝ }
-    requires { ⌜ length (now out) ≤ 6508 ⌝ }
 {
     let answer = sheet::work(unit, sheet, &mut out[..room]);
-    super::written(answer);
+    printing::written(answer);
     hex(out);
 }
 
@@ -101,7 +95,7 @@ fn lent(name: &[u8], sheet: &[u8], room: usize)
 
 // The sheet of unit 16909060, for a unit of any number.
 fn unit(n: i64) {
-    super::print(b"\nunit ", n);
+    printing::print(b"\nunit ", n);
     io::write_all(STDOUT_FILENO, b": ");
     into(n, b"\x01\x02\x03\x04\x00\x00\x00", 8, &mut [b'#'; 8]);
 }
@@ -204,8 +198,8 @@ fn tried(sheet: &[u8], out: &mut [u8])
     requires { ⌜ length (now out) ≡ 47 ⌝ }
 {
     match sheet::work(7, sheet, out) {
-        WrittenAnswer::Gives(_) => super::digit(out[6]),
-        WrittenAnswer::Refused(why) => super::digit(why.number()),
+        WrittenAnswer::Gives(_) => printing::digit(out[6]),
+        WrittenAnswer::Refused(why) => printing::digit(why.number()),
     }
 }
 
@@ -236,48 +230,45 @@ fn cuts() {
     cut(b"unlisted, cut", changed(THREE, 10, 2));
 }
 
-// At one place of ONE every byte, or one of so many.
-fn bytes_at(place: usize, step: usize)
+// Every byte at one place of ONE.
+fn bytes_at(place: usize)
     requires { ⌜ place < 18 ⌝ }
-    requires { ⌜ (0 < step) × (step < 256) ⌝ }
 {
-    super::print(b"\nbyte ", place as i64);
+    printing::print(b"\nbyte ", place as i64);
     io::write_all(STDOUT_FILENO, b": ");
     let mut sheet = ONE;
     let mut out = [b'#'; 47];
-    let mut b = 0;
+    let mut b: u32 = 0;
     while b < 256 {
         sheet[place] = b as u8;
         tried(&sheet, &mut out);
-        b += step;
+        b += 1;
     }
 }
 
-// Fewer in latitude and longitude, where the sheet is accepted and the point worked each time.
 fn every_byte() {
-    bytes_at(0, 1);
-    bytes_at(1, 1);
-    bytes_at(2, 1);
-    bytes_at(3, 1);
-    bytes_at(4, 1);
-    bytes_at(5, 1);
-    bytes_at(6, 1);
-    bytes_at(7, 1);
-    bytes_at(8, 1);
-    bytes_at(9, 1);
-    bytes_at(10, 17);
-    bytes_at(11, 17);
-    bytes_at(12, 17);
-    bytes_at(13, 17);
-    bytes_at(14, 17);
-    bytes_at(15, 17);
-    bytes_at(16, 17);
-    bytes_at(17, 17);
+    bytes_at(0);
+    bytes_at(1);
+    bytes_at(2);
+    bytes_at(3);
+    bytes_at(4);
+    bytes_at(5);
+    bytes_at(6);
+    bytes_at(7);
+    bytes_at(8);
+    bytes_at(9);
+    bytes_at(10);
+    bytes_at(11);
+    bytes_at(12);
+    bytes_at(13);
+    bytes_at(14);
+    bytes_at(15);
+    bytes_at(16);
+    bytes_at(17);
 }
 
 // A point of a long sheet, by its place: the points of FIFTEEN in turn, with other third bytes of latitude and longitude, so
-// that no two are the same. Of each eleven, eight have their place for the first byte of latitude too, and are refused, but for
-// place 2, which has that byte already.
+// that no two are the same.
 fn moved(place: usize) -> [u8; 9] {
     let from = 13 + place % 15 * 9;
     let by = (place % 256) as u8;
@@ -285,9 +276,6 @@ fn moved(place: usize) -> [u8; 9] {
     bytes::copy(&FIFTEEN[from..from + 9], &mut point);
     point[3] = by;
     point[7] = 255 - by;
-    if place % 11 % 4 != 0 {
-        point[1] = by;
-    }
     point
 }
 
@@ -315,14 +303,14 @@ fn filled() -> [u8; 4522] {
 fn counted(long: [u8; 4522], points: usize, out: &mut [u8])
     requires { ⌜ points ≤ 501 ⌝ }
 {
-    super::print(b"\npoints ", points as i64);
+    printing::print(b"\npoints ", points as i64);
     io::write_all(STDOUT_FILENO, b": ");
     let mut sheet = long;
     sheet[11] = (points / 256) as u8;
     sheet[12] = (points % 256) as u8;
     let end = 13 + points * 9;
     let answer = sheet::work(7, &sheet[..end], out);
-    super::written(answer);
+    printing::written(answer);
 }
 
 fn counts() {
@@ -344,8 +332,8 @@ fn counts() {
     hex(&over);
 }
 
-pub(crate) fn all() {
-    io::write_all(STDOUT_FILENO, b"\nsheet");
+fn main() {
+    io::write_all(STDOUT_FILENO, b"sheet");
     units();
     serials_and_datums();
     codes_and_points();
@@ -355,4 +343,5 @@ pub(crate) fn all() {
     named(b"fifteen points");
     into(7, &FIFTEEN, 203, &mut [b'#'; 203]);
     counts();
+    io::write_all(STDOUT_FILENO, b"\n");
 }
