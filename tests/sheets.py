@@ -75,8 +75,8 @@ def lent(unit, given, out, room):
         found = result(unit, given)
         must(len(found) <= room, 7)
     except Refusal as why:
-        return str(why), out
-    return f'({len(found)})', found + out[len(found):]
+        return f'refused {why}', out
+    return f'wrote {len(found)}', found + out[len(found):]
 
 
 def into(name, unit, given, size, room=None):
@@ -87,7 +87,8 @@ def into(name, unit, given, size, room=None):
 def tried(given, out):
     """The digit of the sheet's refusal, or of its first point's, or 0; and the buffer."""
     answer, out = lent(7, given, out, len(out))
-    return str(out[6]) if answer[0] == '(' else answer, out
+    verb, n = answer.split()
+    return str(out[6]) if verb == 'wrote' else n, out
 
 
 def cuts(name, given):

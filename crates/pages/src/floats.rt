@@ -27,12 +27,12 @@ pub(crate) fn point(code: i64, latitude: i64, longitude: i64) {
     match floating::floating(code, latitude, longitude) {
         Answer::Shift(shift) => shifted(shift),
         Answer::Geoid(height) => bits(height),
-        Answer::Refused(number) => printing::print(b" refused ", number as i64),
+        Answer::Refused(number) => super::print(b" refused ", number as i64),
     }
     bits(floating::first(code, latitude, longitude));
     bits(floating::second(code, latitude, longitude));
     bits(floating::third(code, latitude, longitude));
-    printing::print(b" ", floating::refusal(code, latitude, longitude) as i64);
+    super::print(b" ", floating::refusal(code, latitude, longitude) as i64);
 }
 
 // The floats of one whole number as each of the three shifts.

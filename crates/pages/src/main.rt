@@ -7,7 +7,14 @@ mod texts;
 
 use kinds::Refusal;
 use libc::STDOUT_FILENO;
-use printing::print;
+
+pub(crate) fn print(before: &[u8], n: i64) {
+    io::write_all(STDOUT_FILENO, before);
+    if n < 0 {
+        io::write_all(STDOUT_FILENO, b"-");
+    }
+    io::print_decimal(STDOUT_FILENO, whole::size(n));
+}
 
 pub(crate) fn print_i32(before: &[u8], n: i32) {
     print(before, n as i64);

@@ -34,9 +34,9 @@ fn geoid(code: i64, latitude: i64, longitude: i64) {
 }
 
 fn point(code: i64, latitude: i64, longitude: i64) {
-    printing::print(b"\n", code);
-    printing::print(b" ", latitude);
-    printing::print(b" ", longitude);
+    super::print(b"\n", code);
+    super::print(b" ", latitude);
+    super::print(b" ", longitude);
     io::write_all(STDOUT_FILENO, b":");
     answer(code, latitude, longitude);
     shift(code, latitude, longitude);

@@ -16,7 +16,7 @@ use libc::STDOUT_FILENO;
 
 // A raw number through each constructor.
 fn made(n: i64) {
-    printing::print(b"\n", n);
+    super::print(b"\n", n);
     io::write_all(STDOUT_FILENO, b":");
     match LocalLatitude::new(n) {
         LocalLatitudeAnswer::Gives(x) => super::print_i32(b" ", x.ms()),
@@ -27,11 +27,11 @@ fn made(n: i64) {
         LocalLongitudeAnswer::Refused(why) => super::refused(why),
     }
     match Wgs84Latitude::new(n) {
-        Wgs84LatitudeAnswer::Gives(x) => printing::print(b" ", x.units()),
+        Wgs84LatitudeAnswer::Gives(x) => super::print(b" ", x.units()),
         Wgs84LatitudeAnswer::Refused(why) => super::refused(why),
     }
     match Wgs84Longitude::new(n) {
-        Wgs84LongitudeAnswer::Gives(x) => printing::print(b" ", x.units()),
+        Wgs84LongitudeAnswer::Gives(x) => super::print(b" ", x.units()),
         Wgs84LongitudeAnswer::Refused(why) => super::refused(why),
     }
     match AngleShift::new(n) {
@@ -46,18 +46,18 @@ fn made(n: i64) {
 
 // A local latitude, and a longitude of the same ms, by a shift.
 fn converted(ms: i64, shift: i64) {
-    printing::print(b"\n", ms);
-    printing::print(b" by ", shift);
+    super::print(b"\n", ms);
+    super::print(b" by ", shift);
     io::write_all(STDOUT_FILENO, b":");
     let AngleShiftAnswer::Gives(by) = AngleShift::new(shift) else {
         return;
     };
     match LocalLatitude::new(ms) {
-        LocalLatitudeAnswer::Gives(x) => printing::print(b" ", x.shifted(by).units()),
+        LocalLatitudeAnswer::Gives(x) => super::print(b" ", x.shifted(by).units()),
         LocalLatitudeAnswer::Refused(why) => super::refused(why),
     }
     match LocalLongitude::new(ms) {
-        LocalLongitudeAnswer::Gives(x) => printing::print(b" ", x.shifted(by).units()),
+        LocalLongitudeAnswer::Gives(x) => super::print(b" ", x.shifted(by).units()),
         LocalLongitudeAnswer::Refused(why) => super::refused(why),
     }
 }

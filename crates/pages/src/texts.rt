@@ -1,6 +1,7 @@
 // Positions as text: a table of texts; every byte at every place, every length to 20; and numbers written into buffers.
 use kinds::LocalLatitudeAnswer;
 use kinds::LocalLongitudeAnswer;
+use kinds::Refusal;
 use kinds::WrittenAnswer;
 use libc::STDOUT_FILENO;
 ghost use mathlib.Core.Path.{_≡_};
@@ -13,17 +14,21 @@ fn number(n: i32) {
     io::write_all(STDOUT_FILENO, b")");
 }
 
+fn digit(why: Refusal) {
+    super::print(b"", why.number() as i64);
+}
+
 fn latitude(text: &[u8]) {
     match position::read_latitude(text) {
         LocalLatitudeAnswer::Gives(x) => number(x.ms()),
-        LocalLatitudeAnswer::Refused(why) => printing::digit(why.number()),
+        LocalLatitudeAnswer::Refused(why) => digit(why),
     }
 }
 
 fn longitude(text: &[u8]) {
     match position::read_longitude(text) {
         LocalLongitudeAnswer::Gives(x) => number(x.ms()),
-        LocalLongitudeAnswer::Refused(why) => printing::digit(why.number()),
+        LocalLongitudeAnswer::Refused(why) => digit(why),
     }
 }
 
@@ -41,7 +46,7 @@ fn bytes_at(text: &mut [u8], place: usize)
     requires { ⌜ length (now text) ≡ 12 ⌝ }
     requires { ⌜ place < 12 ⌝ }
 {
-    printing::print(b"\nbyte ", place as i64);
+    super::print(b"\nbyte ", place as i64);
     io::write_all(STDOUT_FILENO, b": ");
     let kept = text[place];
     let mut b: u32 = 0;
@@ -68,7 +73,14 @@ fn lengths(text: &[u8])
 }
 
 fn put(answer: WrittenAnswer, out: &[u8]) {
-    printing::written(answer);
+    match answer {
+        WrittenAnswer::Gives(n) => {
+            io::write_all(STDOUT_FILENO, b"(");
+            io::print_decimal(STDOUT_FILENO, n as u64);
+            io::write_all(STDOUT_FILENO, b")");
+        }
+        WrittenAnswer::Refused(why) => digit(why),
+    }
     io::write_all(STDOUT_FILENO, out);
 }
 
@@ -90,8 +102,8 @@ fn longitude_into(ms: i64, room: usize, out: &mut [u8])
 fn into(ms: i64, room: usize)
     requires { ⌜ room ≤ 14 ⌝ }
 {
-    printing::print(b"\n", ms);
-    printing::print(b" into ", room as i64);
+    super::print(b"\n", ms);
+    super::print(b" into ", room as i64);
     io::write_all(STDOUT_FILENO, b": ");
     latitude_into(ms, room, &mut [b'#'; 14]);
     io::write_all(STDOUT_FILENO, b" ");

@@ -7,6 +7,9 @@ ghost use mathlib.Core.Path.{_≡_};
 ghost use Prim.Native.Nat.{_<_, _≤_};
 ghost use lib.ListN.{length};
 
+// The serial 16909060, no datums and no points.
+const BARE: [u8; 7] = *b"\x01\x02\x03\x04\x00\x00\x00";
+
 // Datums 2 and 5, and a point of datum 5 with the largest latitude and the largest longitude.
 const ONE: [u8; 18] = *b"\x00\x00\x00\x07\x02\x02\x05\x00\x01\
     \x05\x13\x4f\xd9\x00\x4d\x3f\x63\xff";
@@ -61,7 +64,21 @@ fn remainder(bytes: &[u8]) {
         left = (left * 256 + wide(bytes[i])) % 1_000_000_007;
         i += 1;
     }
-    printing::print(b" ", left as i64);
+    io::write_all(STDOUT_FILENO, b" ");
+    io::print_decimal(STDOUT_FILENO, left as u64);
+}
+
+fn said(answer: WrittenAnswer) {
+    match answer {
+        WrittenAnswer::Gives(n) => {
+            io::write_all(STDOUT_FILENO, b"wrote ");
+            io::print_decimal(STDOUT_FILENO, n as u64);
+        }
+        WrittenAnswer::Refused(why) => {
+            io::write_all(STDOUT_FILENO, b"refused ");
+            io::print_decimal(STDOUT_FILENO, why.number() as u64);
+        }
+    }
 }
 
 // A sheet, worked into the start of a buffer, all of which is shown.
@@ -69,7 +86,7 @@ fn into(unit: i64, sheet: &[u8], room: usize, out: &mut [u8])
     requires { ⌜ room ≤ length (now out) ⌝ }
 {
     let answer = sheet::work(unit, sheet, &mut out[..room]);
-    printing::written(answer);
+    said(answer);
     hex(out);
 }
 
@@ -93,13 +110,6 @@ fn lent(name: &[u8], sheet: &[u8], room: usize)
     into(7, sheet, room, &mut [b'#'; 47]);
 }
 
-// The sheet of unit 16909060, for a unit of any number.
-fn unit(n: i64) {
-    printing::print(b"\nunit ", n);
-    io::write_all(STDOUT_FILENO, b": ");
-    into(n, b"\x01\x02\x03\x04\x00\x00\x00", 8, &mut [b'#'; 8]);
-}
-
 // Other units' numbers have one byte that is another, all four the other way round, more than 4 bytes, or a sign.
 fn units() {
     bare(b"serial 1", 1, b"\x00\x00\x00\x01\x00\x00\x00");
@@ -113,18 +123,26 @@ fn units() {
         -1,
         b"\xff\xff\xff\xff\x00\x00\x00",
     );
-    unit(16_909_060);
-    unit(16_909_061);
-    unit(16_909_316);
-    unit(16_974_596);
-    unit(33_686_276);
-    unit(67_305_985);
-    unit(4_311_876_356);
-    unit(0);
-    unit(-1);
-    unit(-16_909_060);
-    unit(9_223_372_036_854_775_807);
-    unit(-9_223_372_036_854_775_808);
+    bare(b"unit 16909060", 16_909_060, &BARE);
+    bare(b"unit 16909061", 16_909_061, &BARE);
+    bare(b"unit 16909316", 16_909_316, &BARE);
+    bare(b"unit 16974596", 16_974_596, &BARE);
+    bare(b"unit 33686276", 33_686_276, &BARE);
+    bare(b"unit 67305985", 67_305_985, &BARE);
+    bare(b"unit 4311876356", 4_311_876_356, &BARE);
+    bare(b"unit 0", 0, &BARE);
+    bare(b"unit -1", -1, &BARE);
+    bare(b"unit -16909060", -16_909_060, &BARE);
+    bare(
+        b"unit 9223372036854775807",
+        9_223_372_036_854_775_807,
+        &BARE,
+    );
+    bare(
+        b"unit -9223372036854775808",
+        -9_223_372_036_854_775_808,
+        &BARE,
+    );
 }
 
 // The refusals in their order, alone and with one that comes later.
@@ -197,10 +215,11 @@ fn rooms() {
 fn tried(sheet: &[u8], out: &mut [u8])
     requires { ⌜ length (now out) ≡ 47 ⌝ }
 {
-    match sheet::work(7, sheet, out) {
-        WrittenAnswer::Gives(_) => printing::digit(out[6]),
-        WrittenAnswer::Refused(why) => printing::digit(why.number()),
-    }
+    let number = match sheet::work(7, sheet, out) {
+        WrittenAnswer::Gives(_) => out[6],
+        WrittenAnswer::Refused(why) => why.number(),
+    };
+    io::print_hex(STDOUT_FILENO, number as u64, 1);
 }
 
 // The first bytes of a sheet, none to all, and one byte after them; then the buffer, which all were lent.
@@ -234,7 +253,8 @@ fn cuts() {
 fn bytes_at(place: usize)
     requires { ⌜ place < 18 ⌝ }
 {
-    printing::print(b"\nbyte ", place as i64);
+    io::write_all(STDOUT_FILENO, b"\nbyte ");
+    io::print_decimal(STDOUT_FILENO, place as u64);
     io::write_all(STDOUT_FILENO, b": ");
     let mut sheet = ONE;
     let mut out = [b'#'; 47];
@@ -303,14 +323,15 @@ fn filled() -> [u8; 4522] {
 fn counted(long: [u8; 4522], points: usize, out: &mut [u8])
     requires { ⌜ points ≤ 501 ⌝ }
 {
-    printing::print(b"\npoints ", points as i64);
+    io::write_all(STDOUT_FILENO, b"\npoints ");
+    io::print_decimal(STDOUT_FILENO, points as u64);
     io::write_all(STDOUT_FILENO, b": ");
     let mut sheet = long;
     sheet[11] = (points / 256) as u8;
     sheet[12] = (points % 256) as u8;
     let end = 13 + points * 9;
     let answer = sheet::work(7, &sheet[..end], out);
-    printing::written(answer);
+    said(answer);
 }
 
 fn counts() {

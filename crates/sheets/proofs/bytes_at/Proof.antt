@@ -12,20 +12,20 @@ Inv-loop place sheet₀ out₀ b₀ sheet out b = (length sheet ≡ 18) × (leng
 abbrev μ-loop : tie.MeasureT-loop
 μ-loop place sheet₀ out₀ b₀ sheet out b = 256 - b
 
-slice-aggregate-print : tie.Need-slice-aggregate-print Inv-loop μ-loop
-slice-aggregate-print c = search needs
-
-cast-print : tie.Need-cast-print Inv-loop μ-loop
-cast-print c = search needs
-
-print-requires : tie.Need-print-requires Inv-loop μ-loop
-print-requires c κs = search needs
-
 slice-aggregate-write-all : tie.Need-slice-aggregate-write-all Inv-loop μ-loop
 slice-aggregate-write-all c = search needs
 
 write-all-requires : tie.Need-write-all-requires Inv-loop μ-loop
 write-all-requires c κs = search needs
+
+print-decimal-requires : tie.Need-print-decimal-requires Inv-loop μ-loop
+print-decimal-requires c κs = search needs
+
+slice-aggregate-write-all-2 : tie.Need-slice-aggregate-write-all-2 Inv-loop μ-loop
+slice-aggregate-write-all-2 c = search needs
+
+write-all-requires-2 : tie.Need-write-all-requires-2 Inv-loop μ-loop
+write-all-requires-2 c κs = search needs
 
 loop-holds : tie.Need-loop-holds Inv-loop μ-loop
 loop-holds c = search needs
@@ -63,11 +63,11 @@ bytes-at-spec =
     (tie.spec
     Inv-loop
     μ-loop
-    slice-aggregate-print
-    cast-print
-    print-requires
     slice-aggregate-write-all
     write-all-requires
+    print-decimal-requires
+    slice-aggregate-write-all-2
+    write-all-requires-2
     loop-holds
     cast-sheet
     array-write-sheet

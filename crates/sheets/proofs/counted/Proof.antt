@@ -7,20 +7,20 @@ use borrow.Author.Needs.{needs}
 use Rattle.sheets.proofs.counted.Statement.{statement}
 use Rattle.sheets.proofs.counted.Tie as tie
 
-slice-aggregate-print : tie.Need-slice-aggregate-print
-slice-aggregate-print c = search needs
-
-cast-print : tie.Need-cast-print
-cast-print c = search needs
-
-print-requires : tie.Need-print-requires
-print-requires c κs = search needs
-
 slice-aggregate-write-all : tie.Need-slice-aggregate-write-all
 slice-aggregate-write-all c = search needs
 
 write-all-requires : tie.Need-write-all-requires
 write-all-requires c κs = search needs
+
+print-decimal-requires : tie.Need-print-decimal-requires
+print-decimal-requires c κs = search needs
+
+slice-aggregate-write-all-2 : tie.Need-slice-aggregate-write-all-2
+slice-aggregate-write-all-2 c = search needs
+
+write-all-requires-2 : tie.Need-write-all-requires-2
+write-all-requires-2 c κs = search needs
 
 cast-sheet : tie.Need-cast-sheet
 cast-sheet c = search needs
@@ -49,8 +49,8 @@ slice-aggregate-work c = sym (length-take-le _ _ (array-share-prefix-sheet (c .b
 work-requires : tie.Need-work-requires
 work-requires c κs = search needs
 
-written-requires : tie.Need-written-requires
-written-requires c κs = search needs
+said-requires : tie.Need-said-requires
+said-requires c κs = search needs
 
 same-length : tie.Need-same-length
 same-length c = search needs
@@ -62,11 +62,11 @@ pub counted-spec : {M : Type 1} → statement M
 counted-spec =
     tie.close
     (tie.spec
-    slice-aggregate-print
-    cast-print
-    print-requires
     slice-aggregate-write-all
     write-all-requires
+    print-decimal-requires
+    slice-aggregate-write-all-2
+    write-all-requires-2
     cast-sheet
     array-write-sheet
     cast-sheet-2
@@ -76,6 +76,6 @@ counted-spec =
     array-share-prefix-sheet
     slice-aggregate-work
     work-requires
-    written-requires
+    said-requires
     same-length
     returns)

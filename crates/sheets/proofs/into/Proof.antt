@@ -14,8 +14,8 @@ slice-aggregate-work c = sym (length-take-le _ _ (slice-relend-prefix-work (c .b
 work-requires : tie.Need-work-requires
 work-requires c κs = search needs
 
-written-requires : tie.Need-written-requires
-written-requires c κs = search needs
+said-requires : tie.Need-said-requires
+said-requires c κs = search needs
 
 hex-requires : tie.Need-hex-requires
 hex-requires c κs = search needs
@@ -33,7 +33,7 @@ into-spec =
     slice-relend-prefix-work
     slice-aggregate-work
     work-requires
-    written-requires
+    said-requires
     hex-requires
     same-length
     returns)
