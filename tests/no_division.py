@@ -1,5 +1,6 @@
 #!/usr/bin/env python3
-"""The compiled forms that divide by a constant hold no division instruction: reads the machine code of target/obj/pages.o.
+"""The working rule, compiled, divides by constants and holds no division instruction: reads the machine code of
+target/obj/pages.o.
 
 That a division by a literal becomes a multiplication is the compiler's doing, and nothing proves it: so it is looked at.
 """

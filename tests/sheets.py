@@ -1,6 +1,6 @@
 #!/usr/bin/env python3
-"""What the program `sheets` must print, worked out from document 01 with Python's own reading of bytes. A point's answer is that
-of tests/pages.py.
+"""What the program `sheets` must print, worked out from document 01 with Python's own reading of bytes. A point's answer is
+that of tests/pages.py.
 
     python3 tests/sheets.py           prints it
     python3 tests/sheets.py --check   holds it to crates/sheets/stdout, to which the gate holds the program
@@ -114,11 +114,13 @@ def refusals():
         ('foreign, datum count cut', 8, own[:4]), ('foreign, datum count over', 8, sheet(7, datums=7)[:5]),
         ('datum count cut', 7, own[:4]), ('datum count over, codes cut', 7, sheet(7, datums=7)[:5]),
         ('datum count over', 7, sheet(7, range(7))), ('six datums', 7, sheet(7, range(1, 7))),
-        ('codes cut and falling', 7, sheet(7, [5, 4], datums=3)[:7]), ('codes falling, point count cut', 7, sheet(7, [5, 4])[:7]),
+        ('codes cut and falling', 7, sheet(7, [5, 4], datums=3)[:7]),
+        ('codes falling, point count cut', 7, sheet(7, [5, 4])[:7]),
         ('codes falling', 7, sheet(7, [5, 4])), ('codes equal', 7, sheet(7, [4, 4])),
         ('code 0', 7, sheet(7, [0])), ('code 7', 7, sheet(7, [7])),
         ('point count cut and over', 7, sheet(7, count=255 * 256)[:6]), ('point count over, length', 7, sheet(7, count=501)),
-        ('length', 7, sheet(7, count=500)), ('length, unlisted', 7, sheet(7, count=1) + b'\1'), ('a byte after', 7, own + b'\0'),
+        ('length', 7, sheet(7, count=500)), ('length, unlisted', 7, sheet(7, count=1) + b'\1'),
+        ('a byte after', 7, own + b'\0'),
     ]
 
 

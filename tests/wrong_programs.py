@@ -1,5 +1,5 @@
 #!/usr/bin/env python3
-"""Each must-fail edit of a source is a wrong program: built with it and run with no proof, the test program does not print
+"""Each must-fail edit of a source is a wrong program: built with it and run with no proof, its test program does not print
 what it must, or a run that checks the machine's rules stops.
 
 This is what a refusal alone does not show, since the prover also refuses a right program that the proof was not written
@@ -47,6 +47,8 @@ def apply(edit, room):
         elif line.startswith('new: '):
             with open(place, encoding='utf-8') as f:
                 text = f.read()
+            if text.count(old) != 1:
+                raise ValueError(f'{edit}: {old!r} occurs {text.count(old)} times')
             with open(place, 'w', encoding='utf-8') as f:
                 f.write(text.replace(old, line[len('new: '):]))
 

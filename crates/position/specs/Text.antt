@@ -1,11 +1,12 @@
 -- Document 01, 'Positions': a position as text. A latitude is `ddmmss.sssN` or `S`, a longitude `dddmmss.sssE`; what holds of
 -- both is said once.
-use mathlib.Core.Bool.{Bool, true, _&&_, _||_, not, cond}
+use mathlib.Core.Bool.{Bool, _&&_, _||_, not, cond}
 use mathlib.Core.List.{List, [], _∷_, _++_, map}
 use Prim.Native.Nat.{ℕ, _+_, _-_, _*_, _/_, _%_}
 use lib.Dec.{eqb, leb, ltb}
 use lib.IntN.{ℤ, pos, negsuc, negℤ, natAbs}
 use lib.ListN.{length, getD}
+use Rattle.whole.specs.Every.{every}
 use Rattle.whole.specs.Places.{fromPlaces, inPlaces}
 use Rattle.kinds.specs.Answer.{Answer, gives, provided, placed}
 use Rattle.kinds.specs.Bytes.{part}
@@ -61,8 +62,7 @@ abbrev pub byteOf : ℕ → ℕ
 byteOf d = 48 + d
 
 unfoldable pub allDigits : List ℕ → Bool
-allDigits [] = true
-allDigits (b ∷ t) = isDigit b && allDigits t
+allDigits t = every isDigit t
 
 -- the number that digits say, the first counting most
 unfoldable pub number : List ℕ → ℕ

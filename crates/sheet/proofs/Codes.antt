@@ -8,8 +8,8 @@ use native.Mathlib.Omega.{arith}
 use lib.Dec.{eqb, leb, ltb}
 use lib.ListN.{length, getD, set, take, drop, length-set, drop-of-length-le}
 use lib.Seq.{drop-cons, take-suc, ext-getD, getD-set-same, getD-set-other}
-use borrow.Author.Tests.{eq-eqb, ne-eqb, eqb-true, eqb-false, ltb-true, leb-true, leb-false, le-leb, lt-leb, not-true, not-false}
-use Rattle.whole.proofs.Bools.{both, either}
+use borrow.Author.Tests.{eq-eqb, ne-eqb, eqb-true, eqb-false, ltb-true, lt-ltb, leb-true, leb-false, le-leb, lt-leb, not-true, not-false}
+use Rattle.whole.proofs.Bools.{both, joined, either}
 use Rattle.kinds.proofs.Bytes.{at}
 use Rattle.sheet.specs.Sheet.{rise, isListed}
 use Rattle.sheet.specs.Inside.{flagsFrom, flags, flagOf}
@@ -59,8 +59,17 @@ risen before (code ∷ rest) h i zero k more = absurd (omega arith)
 risen before (code ∷ rest) h zero (suc j) k more = six code rest (rise-first before code rest h .1 .1) j (omega arith) .0
 risen before (code ∷ rest) h (suc i) (suc j) k more = risen code rest (rise-first before code rest h .1 .1) i j (omega arith) (omega arith)
 
+-- and what does so rises
+pub rises : (before : ℕ) (codes : List ℕ) → ((i : ℕ) → i < length codes → (before < at codes i) × (at codes i ≤ 6)) → ((i j : ℕ) → i < j → j < length codes → at codes i < at codes j) → rise before codes ≡ true
+unfolding rise
+rises before [] within above = refl
+rises before (code ∷ rest) within above =
+    let first = within 0 (omega arith) in
+    joined (joined (lt-ltb before code (first .0)) (le-leb code 6 (first .1)))
+    (rises code rest (λ i more. (above 0 (suc i) (omega arith) (omega (arith, more)), within (suc i) (omega (arith, more)) .1)) (λ i j k more. above (suc i) (suc j) (omega (arith, k)) (omega (arith, more))))
+
 -- ---- what is listed
-pub listed-more : (codes : List ℕ) (c k : ℕ) → isListed (codes ++ c ∷ []) k ≡ (isListed codes k || eqb c k)
+listed-more : (codes : List ℕ) (c k : ℕ) → isListed (codes ++ c ∷ []) k ≡ (isListed codes k || eqb c k)
 unfolding isListed
 listed-more [] c k = or-false (eqb c k)
 listed-more (x ∷ codes) c k = ap (λ (b : Bool). eqb x k || b) (listed-more codes c k) ∙ sym (or-assoc (eqb x k) (isListed codes k) (eqb c k))

@@ -27,7 +27,7 @@ use Rattle.sheet.specs.Result.{inRecord, answerAt, resultOf, workOf}
 use Rattle.sheet.specs.Places.{pointAt, recordAt, recordRefusal, recordNumbers}
 use Rattle.sheet.specs.Form.{sheetBytes, isSheet, areBytes}
 use Rattle.sheet.proofs.Numbers as numbers
-use Rattle.sheet.proofs.Codes.{six, risen, listed-at, at-listed}
+use Rattle.sheet.proofs.Codes.{six, risen, rises, listed-at, at-listed}
 use Rattle.sheet.proofs.Calls.{result-long}
 use Rattle.sheet.proofs.Works as works
 use Rattle.sheet.proofs.Form as form
@@ -114,7 +114,7 @@ pub zero-serial : (unit : ℤ) (bytes : List ℕ) (room : ℕ) → 4 ≤ length 
 zero-serial unit bytes room long none = refused-where unit bytes room 9 .1 (inl (inr (le-leb 4 (length bytes) long, inl (ap not (eq-eqb (serial bytes) 0 none), refl))))
 
 -- where two are due, the first in the order of the bytes; with them units 0 and -1, and then a code listed twice, a byte that
--- follows, a lent buffer too short, and a sheet of 7 bytes, with no datums and no points, accepted
+-- follows, a lent buffer too short; and accepted, with no points, a sheet of all six codes and one of 7 bytes, with no datums
 pub record Orders : Type 0 where
   pub cut-and-zero : workOf (pos 1) (0 ∷ 0 ∷ 0 ∷ []) 0 ≡ refused 1
   pub zero-and-foreign : workOf (pos 1) (0 ∷ 0 ∷ 0 ∷ 0 ∷ []) 0 ≡ refused 9
@@ -130,6 +130,7 @@ pub record Orders : Type 0 where
   pub repeated : workOf (pos 1) (0 ∷ 0 ∷ 0 ∷ 1 ∷ 2 ∷ 3 ∷ 3 ∷ 0 ∷ 0 ∷ []) 6 ≡ refused 9
   pub followed : workOf (pos 1) (0 ∷ 0 ∷ 0 ∷ 1 ∷ 0 ∷ 0 ∷ 0 ∷ 0 ∷ []) 6 ≡ refused 1
   pub room : workOf (pos 1) (0 ∷ 0 ∷ 0 ∷ 1 ∷ 0 ∷ 0 ∷ 0 ∷ []) 5 ≡ refused 7
+  pub six-listed : workOf (pos 1) (0 ∷ 0 ∷ 0 ∷ 1 ∷ 6 ∷ 1 ∷ 2 ∷ 3 ∷ 4 ∷ 5 ∷ 6 ∷ 0 ∷ 0 ∷ []) 6 ≡ gives (0 ∷ 0 ∷ 0 ∷ 1 ∷ 0 ∷ 0 ∷ [])
   pub accepted : workOf (pos 1) (0 ∷ 0 ∷ 0 ∷ 1 ∷ 0 ∷ 0 ∷ 0 ∷ []) 6 ≡ gives (0 ∷ 0 ∷ 0 ∷ 1 ∷ 0 ∷ 0 ∷ [])
 
 pub orders : Orders
@@ -149,16 +150,15 @@ orders = record {
   repeated = refl;
   followed = refl;
   room = refl;
+  six-listed = refl;
   accepted = refl;
 }
 
 -- ---- 'that many codes, strictly rising', 'a point's code is not listed'
--- codes that pass are 1 to 6, and each is above those before it
-pub codes-are : (codes : List ℕ) → rise 0 codes ≡ true → (i : ℕ) → i < length codes → (1 ≤ getD codes i 0) × (getD codes i 0 ≤ 6)
-codes-are codes h i more = six 0 codes h i more
-
-pub codes-rise : (codes : List ℕ) → rise 0 codes ≡ true → (i j : ℕ) → i < j → j < length codes → getD codes i 0 < getD codes j 0
-codes-rise codes h i j k more = risen 0 codes h i j k more
+-- codes pass exactly where they are 1 to 6 and each is above those before it
+pub codes-rise : (codes : List ℕ) → (rise 0 codes ≡ true)
+    ↔ (((i : ℕ) → i < length codes → (1 ≤ getD codes i 0) × (getD codes i 0 ≤ 6)) × ((i j : ℕ) → i < j → j < length codes → getD codes i 0 < getD codes j 0))
+codes-rise codes = ((λ h. ((λ i more. six 0 codes h i more), (λ i j k more. risen 0 codes h i j k more))), (λ h. rises 0 codes (h .0) (h .1)))
 
 -- a code is listed exactly where it stands among them
 pub listed-where : (listed : List ℕ) (code : ℕ) → (isListed listed code ≡ true) ↔ ((i : ℕ) × ((i < length listed) × (getD listed i 0 ≡ code)))
@@ -274,7 +274,8 @@ module _ (unit : ℤ) (bytes : List ℕ) (room : ℕ) {result : List ℕ} (h : w
             (⊎-elim (λ three. inr (inl (is-n ∙ three))) (λ six. inr (inr (is-n ∙ six)))))
             (datum.given-one-of isEither (pos code) latitude longitude n e)
 
-    -- ---- demand 3: where the record's first byte is 0, its numbers are within 2, 2 and 1 units of the exact values
+    -- ---- demand 3: where the record's first byte is 0, its numbers are a shift, within 2, 2 and 1 units of the exact values, or
+    -- a geoid height, within 1, and two zeros
     pub near-at : recordRefusal (recordAt k result) ≡ 0
         → (values : Family ℤ) × ((recordNumbers (recordAt k result) ≡ valuesOf (pos 0) (gives values))
         × AllWithin 1 (demanded values) (exact (pageOf (pos code)) latitude longitude) values)

@@ -144,7 +144,7 @@ signed-back (negsuc n) f =
     let e : 4294967296 - suc (4294967296 - suc n) ≡ n = omega (arith, f .sfits) in
     high-is (4294967296 - suc n) (omega (arith, f .sfits)) (omega arith) ∙ ap negsuc e
 
-pub complement-below : (x : ℤ) → SFits w32 x → complement x < 4294967296
+complement-below : (x : ℤ) → SFits w32 x → complement x < 4294967296
 unfolding complement
 complement-below (pos n) f = omega (arith, f .sfits)
 complement-below (negsuc n) f = omega arith

@@ -91,7 +91,7 @@ unfolding recordOf inBytes inPlaces flatMap
 says n x y z f g h = (sym (one-read 0 (recordOf n x y z) (omega arith)), (λ i. value-back x (of-four-bytes x f) i ∷ value-back y (of-four-bytes y g) i ∷ value-back z (of-four-bytes z h) i ∷ []))
 
 -- of an answer whose values have 4 bytes
-pub record-says : (answer : Answer (Family ℤ)) → ((values : Family ℤ) → answer ≡ gives values → each isFourBytes values ≡ true)
+record-says : (answer : Answer (Family ℤ)) → ((values : Family ℤ) → answer ≡ gives values → each isFourBytes values ≡ true)
     → (recordRefusal (inRecord answer) ≡ refusalOf answer) × (recordNumbers (inRecord answer) ≡ valuesOf (pos 0) answer)
 unfolding inRecord recordOf
 record-says (gives (shift a b c)) fits =

@@ -22,14 +22,14 @@ unfolding isUnit
 is-unit (pos n) s h = ap pos (sym (eqb-true s n h))
 is-unit (negsuc n) s h = absurd (false≢true h)
 
-pub not-unit : (unit : ℤ) (s : ℕ) → isUnit unit s ≡ false → unit ≡ pos s → ⊥
+not-unit : (unit : ℤ) (s : ℕ) → isUnit unit s ≡ false → unit ≡ pos s → ⊥
 unfolding isUnit
 not-unit (pos n) s h e =
     let same : n ≡ s = cc in
     eqb-false s n h (sym same)
 not-unit (negsuc n) s h e = let z : _≡_ {A = ℕ} 0 1 = cc in omega arith
 
-pub other-unit : (unit : ℤ) (s : ℕ) → (unit ≡ pos s → ⊥) → isUnit unit s ≡ false
+other-unit : (unit : ℤ) (s : ℕ) → (unit ≡ pos s → ⊥) → isUnit unit s ≡ false
 unfolding isUnit
 other-unit (pos n) s h = ne-eqb s n (λ e. h (ap pos (sym e)))
 other-unit (negsuc n) s h = refl

@@ -1,6 +1,6 @@
-// A test program, the unit sheet: sheets for their own unit and for others, each refusal and two due at once, sheets cut at every length and
-// changed at every place, lent buffers that are too short, and as many points as a sheet may have. tests/sheets.py works out
-// what it must print from the papers.
+// A test program, the unit sheet: sheets for their own unit and for others, each refusal and two due at once, sheets cut at
+// every length and changed at every place, lent buffers that are too short, and as many points as a sheet may have.
+// tests/sheets.py works out what it must print from the papers.
 use kinds::WrittenAnswer;
 use libc::STDOUT_FILENO;
 ghost use mathlib.Core.Path.{_≡_};
@@ -110,7 +110,7 @@ fn lent(name: &[u8], sheet: &[u8], room: usize)
     into(7, sheet, room, &mut [b'#'; 47]);
 }
 
-// Other units' numbers have one byte that is another, all four the other way round, more than 4 bytes, or a sign.
+// Other units' numbers have one byte that is another, all four the other way round, more than 4 bytes or a sign, or are zero.
 fn units() {
     bare(b"serial 1", 1, b"\x00\x00\x00\x01\x00\x00\x00");
     bare(
