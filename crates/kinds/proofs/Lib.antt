@@ -5,6 +5,8 @@ pub mod Answers
 pub mod Tested
 -- a part of a list of bytes: how long it is, and byte by byte
 pub mod Bytes
+-- bytes put at the start of a lent buffer
+pub mod Writing
 -- a local position converted by its shift
 pub mod Conversion
 -- what document 01 asks of refusals, lent buffers and kinds

@@ -3,8 +3,9 @@
 // from 4 bytes, any of which are one; a WGS 84 position also by `shifted`, which does not test), and read by a method: code that
 // takes one kind, or a bare number, for another kind does not build.
 ghost use mathlib.Core.Path.{_≡_};
-ghost use Rattle.kinds.specs.Answer.{numberOf};
-ghost use Rattle.kinds.specs.Cases.{localLatitude, localLongitude, wgs84Latitude, wgs84Longitude, angleShift, height};
+ghost use lib.ListN.{length};
+ghost use Rattle.kinds.specs.Answer.{numberOf, placed, counted, lent};
+ghost use Rattle.kinds.specs.Cases.{localLatitude, localLongitude, wgs84Latitude, wgs84Longitude, angleShift, height, written};
 ghost use Rattle.kinds.specs.Kinds.{within, isLatitude, isLongitude, isWgs84Latitude, isWgs84Longitude, isFourBytes, tested, converted};
 
 // Why a call is refused, in the order of document 01's numbers.
@@ -52,6 +53,17 @@ impl Refusal {
 pub enum WrittenAnswer {
     Gives(usize),
     Refused(Refusal),
+}
+
+// Puts a text at the start of a lent buffer. Refused: 7 it is shorter.
+pub fn put(text: &[u8], out: &mut [u8]) -> WrittenAnswer
+    ensures { λ r. ⌜ written r ≡ counted (placed (now (text .entry)) (length (now (out .entry)))) ⌝ }
+    ensures { λ r. ⌜ now (out .exit) ≡ lent (placed (now (text .entry)) (length (now (out .entry)))) (now (out .entry)) ⌝ }
+{
+    if out.len() < text.len() {
+        return WrittenAnswer::Refused(Refusal::Room);
+    }
+    WrittenAnswer::Gives(bytes::copy(text, out))
 }
 
 // Latitude on the local datum, in ms (thousandths of an arc second), north positive.

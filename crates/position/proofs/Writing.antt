@@ -1,15 +1,14 @@
 -- What each return of a writing answers, and what it leaves in the lent buffer. Assumes nothing.
 use mathlib.Core.Path.{_≡_, refl, ap, _∙_}
-use mathlib.Core.List.{List, _++_}
-use Prim.Native.Nat.{ℕ, _<_, _≤_}
+use mathlib.Core.List.{List}
+use Prim.Native.Nat.{ℕ}
 use lib.IntN.{ℤ}
 use lib.ListN.{length, take, drop}
-use lib.Seq.{take-length}
-use borrow.Author.Tests.{le-leb, lt-leb}
 use Rattle.whole.specs.Places.{inPlaces}
 use Rattle.kinds.specs.Answer.{Answer, gives, refused, provided, placed, counted, lent}
 use Rattle.kinds.specs.Kinds.{tested}
 use Rattle.kinds.proofs.Answers.{passed, failed}
+use Rattle.kinds.proofs.Writing.{Written}
 use Rattle.position.specs.Text.{Coordinate, latitude, longitude, inRange, digits, spelled, text, write}
 
 -- ---- the text of a number
@@ -17,18 +16,6 @@ use Rattle.position.specs.Text.{Coordinate, latitude, longitude, inRange
 pub spelled-rest : (m b : ℕ) → take 11 (drop 1 (spelled longitude m b)) ≡ spelled latitude m b
 unfolding spelled digits inPlaces
 spelled-rest m b = refl
-
--- ---- bytes put at the start of a buffer
--- what is to be written was written: a is the answer, and l the buffer afterwards
-abbrev pub Written : Answer (List ℕ) → List ℕ → Answer ℕ → List ℕ → Type 0
-Written w out a l = (a ≡ counted w) × (l ≡ lent w out)
-
-module _ (bytes out : List ℕ) where
-  pub no-room : length out < length bytes → Written (placed bytes (length out)) out (refused 7) out
-  no-room h = simp (lt-leb (length bytes) (length out) h) (refl, refl)
-
-  pub copied : length bytes ≤ length out → Written (placed bytes (length out)) out (gives (length bytes)) (take (length bytes) bytes ++ drop (length bytes) out)
-  copied h = simp (le-leb (length bytes) (length out) h) (refl, ap (λ (l : List ℕ). l ++ drop (length bytes) out) (take-length bytes))
 
 -- ---- by what the constructor answers
 module _ (k : Coordinate) (x : ℤ) (out : List ℕ) where

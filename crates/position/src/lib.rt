@@ -6,10 +6,11 @@ use kinds::LocalLongitude;
 use kinds::LocalLongitudeAnswer;
 use kinds::Refusal;
 use kinds::WrittenAnswer;
+use kinds::put;
 ghost use mathlib.Core.Path.{_≡_};
 ghost use Prim.Native.Nat.{_+_, _%_, _<_, _≤_};
 ghost use lib.ListN.{length};
-ghost use Rattle.kinds.specs.Answer.{placed, counted, lent};
+ghost use Rattle.kinds.specs.Answer.{counted, lent};
 ghost use Rattle.kinds.specs.Bytes.{part};
 ghost use Rattle.kinds.specs.Cases.{localLatitude, localLongitude, written};
 ghost use Rattle.position.specs.Text.{latitude, longitude, isDigit, digitOf, allDigits, number, isAngle, inSixties, angle, read, spelled, write};
@@ -189,15 +190,4 @@ fn spelled(ms: u64, letter: u8) -> [u8; 12]
         last_digit(thousandths),
         letter,
     ]
-}
-
-// Puts a text at the start of out. Refused: 7 out is shorter.
-fn put(text: &[u8], out: &mut [u8]) -> WrittenAnswer
-    ensures { λ r. ⌜ written r ≡ counted (placed (now (text .entry)) (length (now (out .entry)))) ⌝ }
-    ensures { λ r. ⌜ now (out .exit) ≡ lent (placed (now (text .entry)) (length (now (out .entry)))) (now (out .entry)) ⌝ }
-{
-    if out.len() < text.len() {
-        return WrittenAnswer::Refused(Refusal::Room);
-    }
-    WrittenAnswer::Gives(bytes::copy(text, out))
 }

@@ -1,10 +1,10 @@
--- `position::put` meets its contract. Assumes nothing.
+-- `kinds::put` meets its contract. Assumes nothing.
 use mathlib.Core.Path.{ap, _∙_}
 use borrow.Author.Needs.{needs}
 use Rattle.kinds.specs.Answer.{gives}
-use Rattle.position.proofs.Writing.{no-room, copied}
-use Rattle.position.proofs.put.Statement.{statement}
-use Rattle.position.proofs.put.Tie as tie
+use Rattle.kinds.proofs.Writing.{no-room, copied}
+use Rattle.kinds.proofs.put.Statement.{statement}
+use Rattle.kinds.proofs.put.Tie as tie
 
 returns : tie.Need-returns
 returns c =
