@@ -1,15 +1,17 @@
 -- What document 01 asks of refusals, of lent buffers and of the answers' cases, and document 02's worked conversion. Stated
 -- over specs/ alone. Assumes nothing.
-use mathlib.Core.Path.{_≡_, refl, ap, _∙_}
+use mathlib.Core.Path.{_≡_, refl, sym, ap, _∙_}
 use mathlib.Core.List.{List}
-use mathlib.Core.Logic.{_↔_}
+use mathlib.Core.Logic.{_↔_, _⊎_, inl, inr, ⊎-elim}
 use Prim.Native.Nat.{ℕ, _≤_, _<_}
 use native.Mathlib.Omega.{arith}
+use lib.Dec.{leb}
 use lib.IntN.{ℤ, pos, negℤ, _*ℤ_}
 use lib.ListN.{length, take, drop, length-append, length-drop}
 use lib.Seq.{take-append-seam, drop-append-seam}
+use borrow.Author.Tests.{leb-true, leb-false, le-leb, lt-leb}
 use Rattle.whole.specs.Round.{roundDiv}
-use Rattle.kinds.specs.Answer.{Answer, gives, refused, Test, inOrder, AllHold, FirstFails, refusalOf, numberOf, lent}
+use Rattle.kinds.specs.Answer.{Answer, gives, refused, Test, inOrder, AllHold, FirstFails, refusalOf, numberOf, placed, lent}
 use Rattle.kinds.specs.Cases.{localLatitude, localLongitude, wgs84Latitude, wgs84Longitude, angleShift, height, written}
 use Rattle.kinds.specs.Kinds.{converted}
 use Rattle.kinds.specs.declared.Wgs84Latitude.{Wgs84Latitude}
@@ -30,7 +32,7 @@ use Rattle.kinds.specs.declared.HeightAnswer.{HeightAnswer}
 use Rattle.kinds.specs.declared.HeightAnswer.the-variants as Height
 use Rattle.kinds.specs.declared.WrittenAnswer.{WrittenAnswer}
 use Rattle.kinds.specs.declared.WrittenAnswer.the-variants as Written
-use Rattle.kinds.proofs.Answers.{not-both, same-value, all-held, held, first-failed, fails, number-back, same-refusal, rebuilt, determined}
+use Rattle.kinds.proofs.Answers.{not-both, same-value, passed, failed, all-held, held, first-or-behind, first-failed, fails, number-back, same-refusal, rebuilt, determined}
 
 -- ---- 'Refusal numbers'
 -- no two refusals have one number
@@ -65,6 +67,32 @@ given-where tests v w = (
 
 pub refused-where : {A : Type 0} (tests : List Test) (v : A) (n : ℕ) → (inOrder tests (gives v) ≡ refused n) ↔ FirstFails tests n
 refused-where tests v n = ((λ h. first-failed tests v n h), (λ h. fails tests (gives v) n h))
+
+-- and of bytes that are written after them, 7 where there is no room
+module _ (tests : List Test) (bytes : List ℕ) (room : ℕ) {answer : Answer (List ℕ)} (is : answer ≡ inOrder tests (placed bytes room)) where
+  pub written-where : (w : List ℕ) → (answer ≡ gives w) ↔ (AllHold tests × ((length bytes ≤ room) × (bytes ≡ w)))
+  written-where w = (
+    (λ h.
+        let p = all-held tests (placed bytes room) (sym is ∙ h) in
+        let q = passed (leb (length bytes) room) 7 (gives bytes) (p .1) in
+        (p .0, (leb-true (length bytes) room (q .0), same-value (q .1)))),
+    (λ h. is ∙ held tests (placed bytes room) (h .0) ∙ simp (le-leb (length bytes) room (h .1 .0)) (ap gives (h .1 .1))),
+  )
+
+  pub unwritten-where : (n : ℕ) → (answer ≡ refused n) ↔ (FirstFails tests n ⊎ (AllHold tests × ((room < length bytes) × (n ≡ 7))))
+  unwritten-where n = (
+    (λ h.
+        ⊎-elim inl
+        (λ p.
+        let q = failed (leb (length bytes) room) 7 bytes (p .1) in
+        inr (p .0, (leb-false (length bytes) room (q .0), q .1)))
+        (first-or-behind tests (placed bytes room) n (sym is ∙ h))),
+    (λ h.
+        is
+        ∙ ⊎-elim (λ f. fails tests (placed bytes room) n f)
+        (λ p. held tests (placed bytes room) (p .0) ∙ simp (lt-leb (length bytes) room (p .1 .0)) (ap refused (sym (p .1 .1))))
+        h),
+  )
 
 -- ---- 'Refusals return .. lent memory as it came', 'changes only those, at its start'
 pub refusal-changes-nothing : (n : ℕ) (out : List ℕ) → lent (refused n) out ≡ out

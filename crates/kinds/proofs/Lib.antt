@@ -5,7 +5,7 @@ pub mod Answers
 pub mod Tested
 -- a part of a list of bytes: how long it is, and byte by byte
 pub mod Bytes
--- bytes put at the start of a lent buffer
+-- bytes put at the start of a lent buffer, and after those that stand there
 pub mod Writing
 -- a local position converted by its shift
 pub mod Conversion

@@ -1,5 +1,5 @@
-// The kinds of quantity: latitude and longitude on the local datum and on WGS 84, the shift of an angle, and height; and why
-// a call is refused. Outside this crate a kind is made by `new`, which tests a raw number (a shift and a height also by `of`,
+// The kinds of quantity: latitude and longitude on the local datum and on WGS 84, the shift of an angle, and height; why a
+// call is refused; and a text put into a lent buffer. Outside this crate a kind is made by `new`, which tests a raw number (a shift and a height also by `of`,
 // from 4 bytes, any of which are one; a WGS 84 position also by `shifted`, which does not test), and read by a method: code that
 // takes one kind, or a bare number, for another kind does not build.
 ghost use mathlib.Core.Path.{_≡_};

@@ -8,9 +8,9 @@ use lib.IntN.{pos, negℤ}
 use lib.ListN.{length}
 use borrow.Author.Tests.{eq-eqb, ne-eqb, eqb-true, not-true, not-false}
 use Rattle.whole.proofs.Bools.{both}
-use Rattle.kinds.specs.Answer.{refused}
+use Rattle.kinds.specs.Answer.{gives, refused, provided}
 use Rattle.kinds.specs.Kinds.{tested}
-use Rattle.position.specs.Text.{Coordinate, longitude, letterS, letterE, textLength, letter, isLetter, isAngle, inSixties, angle, inRange, signed, noZeroSouth, read}
+use Rattle.position.specs.Text.{Coordinate, longitude, letterS, letterE, textLength, letter, isLetter, isAngle, inSixties, angle, inRange, signed, noZeroSouth, rightKinds, value, rightRanges, read}
 
 -- ---- the letter
 pub south : {b : ℕ} (m : ℕ) → b ≡ letterS → signed b m ≡ negℤ (pos m)
@@ -25,6 +25,11 @@ east a s b m h = subst (λ (b : ℕ). ((s && noZeroSouth b m) ≡ s) × (signed 
 
 -- ---- both texts
 module _ (k : Coordinate) (t : List ℕ) where
+  -- of the right length, by its kinds and its ranges
+  pub right-length : length t ≡ textLength k → read k t ≡ provided (rightKinds k t) 2 (provided (rightRanges k t) 3 (gives (value k t)))
+  unfolding read
+  right-length h = simp (eq-eqb (length t) (textLength k) h)
+
   pub wrong-length : (length t ≡ textLength k → ⊥) → refused 1 ≡ read k t
   unfolding read
   wrong-length h = simp (ne-eqb (length t) (textLength k) h)

@@ -4,11 +4,12 @@ use mathlib.Core.List.{List, [], _∷_, _++_, flatMap, append-nil, append-assoc}
 use Prim.Native.Nat.{ℕ, zero, suc, _+_, _-_, _*_, _/_, _%_, _≤_}
 use native.Mathlib.Numerals.{add-one}
 use native.Mathlib.Omega.{arith}
-use lib.ListN.{length, take, drop, length-append, length-drop, drop-of-length-le}
-use lib.Seq.{take-at, drop-at, take-all, take-length, drop-drop}
+use lib.ListN.{length, take, drop, length-append, length-drop}
+use lib.Seq.{take-length, drop-drop}
 use borrow.Rule.Slice.PartMut.{putMid}
 use Rattle.whole.specs.Places.{inPlaces}
 use Rattle.kinds.proofs.Bytes.{at}
+use Rattle.kinds.proofs.Writing.{grown}
 use Rattle.sheet.specs.Numbers.{inBytes}
 use Rattle.sheet.specs.Sheet.{pieces}
 use Rattle.sheet.specs.Result.{inRecord}
@@ -35,22 +36,8 @@ records-last (suc n) body =
     ap (λ (l : List ℕ). worked (take 9 body) ++ l) (records-last n (drop 9 body) ∙ ap (λ (l : List ℕ). records n (drop 9 body) ++ worked (take 9 l)) e)
     ∙ sym (append-assoc (worked (take 9 body)) (records n (drop 9 body)) (worked (take 9 (drop (suc n * 9) body))))
 
--- ---- what is lent from b on, with a line put at its start, comes back
-grown : (p d line : List ℕ) (b n : ℕ) → length p ≡ b → length line ≡ n → b + n ≤ length d
-    → putMid b (length (p ++ drop b d) - b) (p ++ drop b d) (line ++ drop n (take (length (p ++ drop b d) - b) (drop b (p ++ drop b d)))) ≡ (p ++ line) ++ drop (b + n) d
-grown p d line b n hp hl room =
-    let e : List ℕ = p ++ drop b d in
-    let rest : drop b e ≡ drop b d = drop-at p (drop b d) b hp in
-    let long : length e - b ≡ length (drop b d) = omega (arith, length-append p (drop b d)) in
-    let part : take (length e - b) (drop b e) ≡ drop b d = rw rest (take-all (length e - b) (drop b d) (omega arith)) in
-    let none : drop (length e - b) (drop b e) ≡ [] = rw rest (drop-of-length-le (drop b d) {i = length e - b} (omega arith)) in
-    ap (λ (l : List ℕ). l ++ ((line ++ drop n (take (length e - b) (drop b e))) ++ drop (length e - b) (drop b e))) (take-at p (drop b d) b hp)
-    ∙ (λ i. p ++ ((line ++ drop n (part i)) ++ none i))
-    ∙ ap (λ (l : List ℕ). p ++ l) (append-nil (line ++ drop n (drop b d)) ∙ ap (λ (l : List ℕ). line ++ l) (drop-drop n b d))
-    ∙ sym (append-assoc p line (drop (b + n) d))
-
 -- a turn: d is the buffer at its start, d0 as it came; line is the record of the point at i
-module _ (body d0 : List ℕ) (i : ℕ) (room : (i + 1) * 13 ≤ length d0) where
+module _ (body d0 : List ℕ) (i : ℕ) where
   pub turn : (d line new : List ℕ) → d ≡ records i body ++ drop (i * 13) d0 → line ≡ worked (take (i * 9 + 9 - i * 9) (drop (i * 9) body))
       → new ≡ take (length line) line ++ drop (length line) (take (length d - i * 13) (drop (i * 13) d))
       → putMid (i * 13) (length d - i * 13) d new ≡ records (i + 1) body ++ drop ((i + 1) * 13) d0
@@ -60,11 +47,11 @@ module _ (body d0 : List ℕ) (i : ℕ) (room : (i + 1) * 13 ≤ length d0) wher
       let k : i * 13 + length r ≡ (i + 1) * 13 = omega (arith, worked-long (take 9 (drop (i * 9) body))) in
       let l : line ≡ r = is-line ∙ ap (λ (n : ℕ). worked (take n (drop (i * 9) body))) nine in
       rw (is-new, take-length line, is-d, l)
-      (grown (records i body) d0 r (i * 13) (length r) (records-long i body) refl (omega arith)
+      (grown (records i body) d0 r (i * 13) (length r) (records-long i body)
       ∙ (λ j. (sym (ap (λ (n : ℕ). records n body) (add-one i) ∙ records-last i body)) j ++ drop (k j) d0))
 
-  pub turn-long : length (records (i + 1) body ++ drop ((i + 1) * 13) d0) ≡ length d0
-  turn-long = omega (arith, length-append (records (i + 1) body) (drop ((i + 1) * 13) d0), records-long (i + 1) body, length-drop ((i + 1) * 13) d0)
+  pub turn-long : (i + 1) * 13 ≤ length d0 → length (records (i + 1) body ++ drop ((i + 1) * 13) d0) ≡ length d0
+  turn-long room = omega (arith, length-append (records (i + 1) body) (drop ((i + 1) * 13) d0), records-long (i + 1) body, length-drop ((i + 1) * 13) d0)
 
 pub no-records : (body : List ℕ) → records 0 body ≡ []
 unfolding records pieces flatMap
@@ -80,10 +67,10 @@ module _ (serial points : ℕ) where
   unfolding inBytes inPlaces
   start-long = refl
 
-  pub put-is : (body d0 d new start : List ℕ) → start ≡ inBytes 4 serial ++ inBytes 2 points → 6 + points * 13 ≤ length d0
+  pub put-is : (body d0 d new start : List ℕ) → start ≡ inBytes 4 serial ++ inBytes 2 points
       → d ≡ take (length start) start ++ drop (length start) d0 → new ≡ records points body ++ drop (points * 13) (take (length d - 6) (drop 6 d))
       → putMid 6 (length d - 6) d new ≡ inBytes 4 serial ++ inBytes 2 points ++ records points body ++ drop (6 + points * 13) d0
-  put-is body d0 d new start is-start room is-d is-new =
+  put-is body d0 d new start is-start is-d is-new =
       let six : length start ≡ 6 = ap length is-start ∙ start-long in
       let e : d ≡ inBytes 4 serial ++ inBytes 2 points ++ drop 6 d0 = is-d ∙ (λ i. (take-length start ∙ is-start) i ++ drop (six i) d0) in
-      rw (is-new, e) (grown (inBytes 4 serial ++ inBytes 2 points) d0 (records points body) 6 (points * 13) start-long (records-long points body) room)
+      rw (is-new, e) (grown (inBytes 4 serial ++ inBytes 2 points) d0 (records points body) 6 (points * 13) start-long)

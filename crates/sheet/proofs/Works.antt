@@ -1,17 +1,18 @@
 -- When a sheet is worked, and when each refusal is given. Assumes nothing.
-use mathlib.Core.Path.{_≡_, refl, sym, ap, _∙_}
+use mathlib.Core.Path.{_≡_, refl, sym, ap, subst}
 use mathlib.Core.Bool.{true, false, not, _||_, false≢true}
 use mathlib.Core.List.{List, _++_}
 use mathlib.Core.Logic.{_↔_, _⊎_, inl, inr, ⊎-elim}
 use Prim.Native.Nat.{ℕ, _+_, _*_, _<_, _≤_}
 use native.Mathlib.Omega.{arith}
-use lib.Dec.{eqb, leb}
+use lib.Dec.{eqb}
 use lib.IntN.{ℤ, pos, negsuc}
 use lib.ListN.{length}
-use borrow.Author.Tests.{leb-true, leb-false, le-leb, lt-leb, eqb-true, eqb-false, ne-eqb, not-true}
+use borrow.Author.Tests.{leb-true, le-leb, eqb-true, eqb-false, ne-eqb, not-true}
 use Rattle.whole.proofs.Bools.{either}
 use Rattle.kinds.specs.Answer.{Answer, gives, refused, AllHold, FirstFails, inOrder, placed}
-use Rattle.kinds.proofs.Answers.{same-value, passed, failed, all-held, held, fails, first-or-behind, first-number, following-tests}
+use Rattle.kinds.proofs.Answers.{first-number, following-tests}
+use Rattle.kinds.proofs.Demands.{written-where, unwritten-where}
 use Rattle.sheet.specs.Sheet.{serial, count, isUnit, countTests, pointTests, tests, said}
 use Rattle.sheet.specs.Result.{resultOf, workOf}
 use Rattle.sheet.proofs.Calls.{result-long}
@@ -36,35 +37,22 @@ other-unit (negsuc n) s h = refl
 
 -- ---- all tests, and then the room
 module _ (unit : ℤ) (t : List ℕ) (room : ℕ) where
-  abbrev last : Answer (List ℕ)
-  last = placed (resultOf (said t)) room
-
-  work-tests : workOf unit t room ≡ inOrder (tests unit t) last
+  work-tests : workOf unit t room ≡ inOrder (tests unit t) (placed (resultOf (said t)) room)
   work-tests = following-tests (tests unit t) (gives (said t)) (λ sheet. placed (resultOf sheet) room)
 
   pub worked-where : (result : List ℕ) → (workOf unit t room ≡ gives result) ↔ (AllHold (tests unit t) × ((6 + count t * 13 ≤ room) × (resultOf (said t) ≡ result)))
-  worked-where result = (
-    (λ h.
-        let p = all-held (tests unit t) last (sym work-tests ∙ h) in
-        let q = passed (leb (length (resultOf (said t))) room) 7 (gives (resultOf (said t))) (p .1) in
-        (p .0, (omega (arith, leb-true (length (resultOf (said t))) room (q .0), result-long t), same-value (q .1)))),
-    (λ h. work-tests ∙ held (tests unit t) last (h .0) ∙ simp (le-leb (length (resultOf (said t))) room (omega (arith, h .1 .0, result-long t))) (ap gives (h .1 .1))),
-  )
+  worked-where result =
+      subst
+      (λ (long : ℕ). (workOf unit t room ≡ gives result) ↔ (AllHold (tests unit t) × ((long ≤ room) × (resultOf (said t) ≡ result))))
+      (result-long t)
+      (written-where (tests unit t) (resultOf (said t)) room work-tests result)
 
   pub refused-where : (n : ℕ) → (workOf unit t room ≡ refused n) ↔ (FirstFails (tests unit t) n ⊎ (AllHold (tests unit t) × ((room < 6 + count t * 13) × (n ≡ 7))))
-  refused-where n = (
-    (λ h.
-        ⊎-elim inl
-        (λ p.
-        let q = failed (leb (length (resultOf (said t))) room) 7 (resultOf (said t)) (p .1) in
-        inr (p .0, (omega (arith, leb-false (length (resultOf (said t))) room (q .0), result-long t), q .1)))
-        (first-or-behind (tests unit t) last n (sym work-tests ∙ h))),
-    (λ h.
-        work-tests
-        ∙ ⊎-elim (λ f. fails (tests unit t) last n f)
-        (λ p. held (tests unit t) last (p .0) ∙ simp (lt-leb (length (resultOf (said t))) room (omega (arith, p .1 .0, result-long t))) (ap refused (sym (p .1 .1))))
-        h),
-  )
+  refused-where n =
+      subst
+      (λ (long : ℕ). (workOf unit t room ≡ refused n) ↔ (FirstFails (tests unit t) n ⊎ (AllHold (tests unit t) × ((room < long) × (n ≡ 7)))))
+      (result-long t)
+      (unwritten-where (tests unit t) (resultOf (said t)) room work-tests n)
 
   -- ---- the numbers, one by one
   pub given-7 : (workOf unit t room ≡ refused 7) ↔ (AllHold (tests unit t) × (room < 6 + count t * 13))

@@ -1,4 +1,4 @@
--- Tests joined by `&&` and `||`. Assumes nothing.
+-- Tests joined by `&&` and `||`, and by their two cases. Assumes nothing.
 use mathlib.Core.Path.{_≡_, refl}
 use mathlib.Core.Bool.{Bool, true, false, _&&_, _||_, false≢true}
 
@@ -15,3 +15,8 @@ joined h k = λ i. h i && k i
 pub either : {P : Type 0} (a b : Bool) → (a || b) ≡ true → (a ≡ true → P) → (b ≡ true → P) → P
 either true b h f g = f refl
 either false b h f g = g h
+
+-- what follows from a test that holds and from one that does not follows
+pub by-test : {P : Type 0} (a : Bool) → (a ≡ true → P) → (a ≡ false → P) → P
+by-test true f g = f refl
+by-test false f g = g refl

@@ -1,7 +1,7 @@
--- A test of every one of a list: of a part, of a weaker test, of the same test said otherwise. Assumes nothing.
+-- A test of every one of a list: of a part, of two together, of a weaker test, of the same test said otherwise. Assumes nothing.
 use mathlib.Core.Path.{_≡_, refl}
 use mathlib.Core.Bool.{Bool, true, _&&_}
-use mathlib.Core.List.{List, [], _∷_}
+use mathlib.Core.List.{List, [], _∷_, _++_}
 use Prim.Native.Nat.{ℕ, zero, suc}
 use lib.ListN.{take, drop}
 use Rattle.whole.specs.Every.{every}
@@ -16,6 +16,13 @@ module _ {A : Type 0} (f : A → Bool) where
       let p = both (f x) (every f l) h in
       let rest = every-cut n l (p .1) in
       (joined (p .0) (rest .0), rest .1)
+
+  -- and what every one of two lists passes, every one of both passes
+  pub every-joined : (k l : List A) → every f k ≡ true → every f l ≡ true → every f (k ++ l) ≡ true
+  every-joined [] l h j = j
+  every-joined (x ∷ k) l h j =
+      let p = both (f x) (every f k) h in
+      joined (p .0) (every-joined k l (p .1) j)
 
   -- and a weaker test
   pub every-weaker : (g : A → Bool) → ((x : A) → f x ≡ true → g x ≡ true) → (l : List A) → every f l ≡ true → every g l ≡ true

@@ -1,5 +1,7 @@
-// Whole numbers: division rounded to the nearest, the product of two scaled numbers, and the laws that the kit lacks. No geodesy.
+// Whole numbers: division rounded to the nearest, the product of two scaled numbers, the distance from zero, the lesser of two,
+// and the laws that the toolchain's library lacks. No geodesy.
 ghost use mathlib.Core.Path.{_≡_};
+ghost use Prim.Native.Nat.{min};
 ghost use lib.IntN.{pos, natAbs, _*ℤ_};
 ghost use lib.Signed.{_<ℤ_};
 ghost use mir.Syntax.{w64};
@@ -49,4 +51,11 @@ pub fn size(x: i64) -> u64
     } else {
         x as u64
     }
+}
+
+// The lesser of two.
+pub fn least(a: usize, b: usize) -> usize
+    ensures { λ r. ⌜ r ≡ min a b ⌝ }
+{
+    if a < b { a } else { b }
 }

@@ -49,7 +49,7 @@ same-length c = search needs
 returns : tie.Need-returns
 returns c =
     let s = c .before .before .before .before .before .before .before .before .before .before .before .before in
-    put-is (s .args .serial) (s .args .points) (s .args .body .now) (s .args .result .now) _ _ _ (start-is (s .args .serial) (s .args .points) _ (c .before .before .before .before .before .before .before .before .before .in-four .ensures) (s .pre .0)) (s .pre .1 .1) (c .before .before .before .before .before .before .copy .ensures .1) (c .before .before .records .ensures)
+    put-is (s .args .serial) (s .args .points) (s .args .body .now) (s .args .result .now) _ _ _ (start-is (s .args .serial) (s .args .points) _ (c .before .before .before .before .before .before .before .before .before .in-four .ensures) (s .pre .0)) (c .before .before .before .before .before .before .copy .ensures .1) (c .before .before .records .ensures)
 
 pub put-spec : {M : Type 1} → statement M
 put-spec =

@@ -73,9 +73,8 @@ loop-again c =
     let s = c .before .before .before .before .before .before .before .before .before .before .before in
     let i = top .loop .i in
     let test = c .before .before .before .before .before .before .before .loop-test .taken in
-    let room : (i + 1) * 13 ≤ length (s .args .out .now) = omega (arith, test, s .pre .1) in
-    let t = turn (s .args .body .now) (s .args .out .now) i room (top .loop .out) _ _ (top .loop .inv .1 .0) (c .before .before .before .before .before .worked .ensures) (c .before .before .copy .ensures .1) in
-    (omega (arith, test), (t, ap length t ∙ turn-long (s .args .body .now) (s .args .out .now) i room))
+    let t = turn (s .args .body .now) (s .args .out .now) i (top .loop .out) _ _ (top .loop .inv .1 .0) (c .before .before .before .before .before .worked .ensures) (c .before .before .copy .ensures .1) in
+    (omega (arith, test), (t, ap length t ∙ turn-long (s .args .body .now) (s .args .out .now) i (omega (arith, test, s .pre .1))))
 
 same-length : tie.Need-same-length Inv-loop μ-loop
 same-length c = c .before .loop .inv .1 .1
