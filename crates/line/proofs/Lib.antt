@@ -1,0 +1,17 @@
+-- The laws, by what they are about. Another crate cites them as `Rattle.line.proofs.NAME`.
+-- a number as it is printed
+pub mod Numbers
+-- what is printed says the number, and no other text of up to ten digits does so without leading zeros
+pub mod Apart
+-- a line that is read, from its latitude and its longitude
+pub mod Reading
+-- a line that is written number by number
+pub mod Writing
+-- a place that was read is answered, and a line with it
+pub mod Calls
+-- a line as it is printed: how long it is, and where its line feed is
+pub mod Printing
+-- a line that is made of a digit and a position is read as them, and a line that is read was so made
+pub mod Form
+-- what document 01 asks of one line
+pub mod Demands

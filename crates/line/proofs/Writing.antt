@@ -1,0 +1,115 @@
+-- A line that is written number by number. Assumes nothing.
+use mathlib.Core.Path.{_≡_, sym, ap, _∙_, subst}
+use mathlib.Core.List.{List, [], _∷_, _++_, append-assoc}
+use Prim.Native.Nat.{ℕ, _+_, _-_, _≤_}
+use native.Mathlib.Omega.{arith}
+use lib.IntN.{ℤ}
+use lib.ListN.{length, take, drop, length-append, length-drop}
+use lib.Seq.{take-at}
+use borrow.Rule.Slice.PartMut.{putMid}
+use Rattle.kinds.specs.Answer.{Answer, placed, counted, lent}
+use Rattle.kinds.proofs.Writing.{Written, lent-part, grown}
+use Rattle.datum.specs.Page.{Family, shift, geoid}
+use Rattle.line.specs.Decimal.{printedNumber}
+use Rattle.line.specs.Line.{space, lineFeed, answerLine}
+use Rattle.line.proofs.Numbers.{printed-short}
+
+-- a number and the byte that follows it
+abbrev pub field : ℤ → ℕ → List ℕ
+field x next = printedNumber x ++ (next ∷ [])
+
+pub field-long : (x : ℤ) (next : ℕ) → length (field x next) ≡ length (printedNumber x) + 1
+field-long x next = length-append (printedNumber x) (next ∷ [])
+
+shift-fields : (a b c : ℤ) → (field a space ++ field b space) ++ field c lineFeed ≡ answerLine (shift a b c)
+unfolding answerLine
+shift-fields a b c = simp append-assoc
+
+-- d is the line as it came, p what stands at its start already, and e the line now
+module _ (p d : List ℕ) {e : List ℕ} {b : ℕ} (is-e : e ≡ p ++ drop b d) (is-b : b ≡ length p) where
+  pub rest-long : length (take (length e - b) (drop b e)) ≡ length d - b
+  rest-long = ap (λ (l : List ℕ). length (take (length l - b) (drop b l))) is-e ∙ ap length (lent-part p d b (sym is-b)) ∙ length-drop b d
+
+  pub still-long : b ≤ length d → length e ≡ length d
+  still-long h = ap length is-e ∙ omega (arith, length-append p (drop b d), length-drop b d, is-b, h)
+
+  pub grown-by : (text new : List ℕ) (n : ℕ) → new ≡ text ++ drop n (take (length e - b) (drop b e)) → putMid b (length e - b) e new ≡ (p ++ text) ++ drop (b + n) d
+  grown-by text new n is-new = rw (is-new, is-e) (grown p d text b n (sym is-b))
+
+-- ---- three numbers: d is the line as it came, and of each number r says how many bytes were written, new what was lent for it,
+-- afterwards
+module _ (x : ℤ) (d : List ℕ) (room : 36 ≤ length d) where
+  module _ {r₁ : ℕ} (e₁ : List ℕ) (is-r₁ : r₁ ≡ length (printedNumber x) + 1) (is-e₁ : e₁ ≡ field x space ++ drop r₁ d) where
+    first-long : r₁ ≡ length (field x space)
+    first-long = is-r₁ ∙ sym (field-long x space)
+
+    first-short : r₁ ≤ 12
+    first-short = omega (arith, is-r₁, printed-short x)
+
+    pub second-starts : r₁ ≤ length e₁
+    second-starts = omega (arith, first-short, room, still-long (field x space) d is-e₁ first-long (omega (arith, first-short, room)))
+
+    pub second-room : 12 ≤ length (take (length e₁ - r₁) (drop r₁ e₁))
+    second-room = omega (arith, first-short, room, rest-long (field x space) d is-e₁ first-long)
+
+    module _ (y : ℤ) {r₂ : ℕ} {new₂ : List ℕ} (is-r₂ : r₂ ≡ length (printedNumber y) + 1) (is-new₂ : new₂ ≡ field y space ++ drop r₂ (take (length e₁ - r₁) (drop r₁ e₁))) where
+      abbrev e₂ : List ℕ
+      e₂ = putMid r₁ (length e₁ - r₁) e₁ new₂
+
+      is-e₂ : e₂ ≡ (field x space ++ field y space) ++ drop (r₁ + r₂) d
+      is-e₂ = grown-by (field x space) d is-e₁ first-long (field y space) new₂ r₂ is-new₂
+
+      second-long : r₁ + r₂ ≡ length (field x space ++ field y space)
+      second-long = omega (arith, length-append (field x space) (field y space), first-long, is-r₂, field-long y space)
+
+      pub second-short : r₁ + r₂ ≤ 24
+      second-short = omega (arith, first-short, is-r₂, printed-short y)
+
+      pub third-starts : r₁ + r₂ ≤ length e₂
+      third-starts = omega (arith, second-short, room, still-long (field x space ++ field y space) d is-e₂ second-long (omega (arith, second-short, room)))
+
+      pub third-room : 12 ≤ length (take (length e₂ - (r₁ + r₂)) (drop (r₁ + r₂) e₂))
+      third-room = omega (arith, second-short, room, rest-long (field x space ++ field y space) d is-e₂ second-long)
+
+      module _ (z : ℤ) {r₃ : ℕ} {new₃ : List ℕ} (is-r₃ : r₃ ≡ length (printedNumber z) + 1) (is-new₃ : new₃ ≡ field z lineFeed ++ drop r₃ (take (length e₂ - (r₁ + r₂)) (drop (r₁ + r₂) e₂))) where
+        abbrev e₃ : List ℕ
+        e₃ = putMid (r₁ + r₂) (length e₂ - (r₁ + r₂)) e₂ new₃
+
+        is-e₃ : e₃ ≡ ((field x space ++ field y space) ++ field z lineFeed) ++ drop (r₁ + r₂ + r₃) d
+        is-e₃ = grown-by (field x space ++ field y space) d is-e₂ second-long (field z lineFeed) new₃ r₃ is-new₃
+
+        third-long : r₁ + r₂ + r₃ ≡ length ((field x space ++ field y space) ++ field z lineFeed)
+        third-long = omega (arith, length-append (field x space ++ field y space) (field z lineFeed), second-long, is-r₃, field-long z lineFeed)
+
+        pub third-short : r₁ + r₂ + r₃ ≤ 36
+        third-short = omega (arith, second-short, is-r₃, printed-short z)
+
+        pub as-long : length e₃ ≡ length d
+        as-long = still-long ((field x space ++ field y space) ++ field z lineFeed) d is-e₃ third-long (omega (arith, third-short, room))
+
+        -- a, b and c are the numbers that the code holds as x, y and z
+        pub shift-written : {a b c : ℤ} → x ≡ a → y ≡ b → z ≡ c → (r₁ + r₂ + r₃ ≡ length (answerLine (shift a b c))) × (e₃ ≡ answerLine (shift a b c) ++ drop (r₁ + r₂ + r₃) d)
+        shift-written ea eb ec =
+            let text = shift-fields x y z ∙ (λ i. answerLine (shift (ea i) (eb i) (ec i))) in
+            (third-long ∙ ap length text, is-e₃ ∙ ap (λ (l : List ℕ). l ++ drop (r₁ + r₂ + r₃) d) text)
+
+-- ---- a text that was put at the start of zeros, in r bytes, is taken from there
+module _ (text zeros new : List ℕ) {r : ℕ} (is-r : r ≡ length text) (is-new : new ≡ text ++ drop r zeros) where
+  pub text-fits : r ≤ length new
+  text-fits = subst (λ (l : List ℕ). r ≤ length l) (sym is-new) (omega (arith, is-r, length-append text (drop r zeros)))
+
+  text-back : take r new ≡ text
+  text-back = ap (take r) is-new ∙ take-at text (drop r zeros) r (sym is-r)
+
+  pub text-counted : r ≡ length (take r new)
+  text-counted = is-r ∙ ap length (sym text-back)
+
+  -- a is what putting it answers, and l the lent buffer afterwards; it is the line of an answer
+  pub line-put : (v : Family ℤ) (out : List ℕ) {a : Answer ℕ} {l : List ℕ} → text ≡ answerLine v → Written (placed (take r new) (length out)) out a l → Written (placed (answerLine v) (length out)) out a l
+  line-put v out e w =
+      let same = text-back ∙ e in
+      (w .0 ∙ ap (λ (t : List ℕ). counted (placed t (length out))) same, w .1 ∙ ap (λ (t : List ℕ). lent (placed t (length out)) out) same)
+
+pub geoid-field : {x n : ℤ} → x ≡ n → field x lineFeed ≡ answerLine (geoid n)
+unfolding answerLine
+geoid-field e = ap (λ (y : ℤ). field y lineFeed) e

@@ -1,0 +1,4 @@
+pub mod Decimal
+pub mod Line
+pub mod Form
+pub mod Inside

@@ -1,0 +1,162 @@
+// One line in, one line out: a point as text, and its shift or geoid height as it is printed.
+mod number;
+
+use datum::PointAnswer;
+use datum::Shifts;
+use kinds::Height;
+use kinds::LocalLatitude;
+use kinds::LocalLatitudeAnswer;
+use kinds::LocalLongitude;
+use kinds::LocalLongitudeAnswer;
+use kinds::Refusal;
+use kinds::WrittenAnswer;
+use kinds::put;
+ghost use mathlib.Core.Path.{_≡_};
+ghost use mathlib.Core.List.{[], _∷_, _++_};
+ghost use Prim.Native.Nat.{_+_, _≤_};
+ghost use lib.ListN.{length, drop};
+ghost use Rattle.kinds.specs.Answer.{numberOf, placed, counted, lent};
+ghost use Rattle.kinds.specs.Cases.{localLongitude, written};
+ghost use Rattle.datum.specs.Cases.{shiftSays, geoidSays};
+ghost use Rattle.line.specs.Decimal.{printedNumber};
+ghost use Rattle.line.specs.Line.{answerLine, lineOf};
+ghost use Rattle.line.specs.Inside.{placeSays, placeAnswer, readOf, withLongitude, firstRefusal, answeredOf};
+
+// Answers the line whose bytes before the line feed are text: `1 350000.000N 0330000.000E` gives `-384288 -110294 24430` and a
+// line feed, at the start of out, and how many bytes these are. Refused, in this order: 1 another length than 26, 2 a byte that
+// is not of its kind, 3 a coordinate out of range, 4 no such code, 6 outside its datum's area, 7 out is shorter than these bytes.
+pub fn line(text: &[u8], out: &mut [u8]) -> WrittenAnswer
+    ensures { λ r. ⌜ written r ≡ counted (lineOf (now (text .entry)) (length (now (out .entry)))) ⌝ }
+    ensures { λ r. ⌜ now (out .exit) ≡ lent (lineOf (now (text .entry)) (length (now (out .entry)))) (now (out .entry)) ⌝ }
+{
+    match read(text) {
+        PlaceAnswer::Gives(place) => answered(place, out),
+        PlaceAnswer::Refused(why) => WrittenAnswer::Refused(why),
+    }
+}
+
+// bytes of a line in, before its line feed
+pub const LINE: usize = 26;
+
+// the most bytes of a line out: three numbers of 11, each with the space or the line feed that follows it
+pub const ANSWER: usize = 36;
+
+// A point as a line says it.
+struct Place {
+    code: i64,
+    latitude: LocalLatitude,
+    longitude: LocalLongitude,
+}
+
+enum PlaceAnswer {
+    Gives(Place),
+    Refused(Refusal),
+}
+
+// Reads a line, whatever its code and its place.
+fn read(text: &[u8]) -> PlaceAnswer
+    ensures { λ r. ⌜ placeAnswer r ≡ readOf (now (text .entry)) ⌝ }
+{
+    if text.len() != LINE {
+        return PlaceAnswer::Refused(Refusal::Length);
+    }
+    let code = text[0];
+    if !((b'0' <= code) & (code <= b'9') & (text[1] == b' ') & (text[13] == b' ')) {
+        return PlaceAnswer::Refused(Refusal::Kind);
+    }
+    let longitude = position::read_longitude(&text[14..26]);
+    match position::read_latitude(&text[2..13]) {
+        LocalLatitudeAnswer::Gives(latitude) => with_longitude(
+            (code - b'0') as i64,
+            latitude,
+            longitude,
+        ),
+        LocalLatitudeAnswer::Refused(why) => PlaceAnswer::Refused(first_refusal(why, longitude)),
+    }
+}
+
+// Of a line whose latitude was read.
+fn with_longitude(
+    code: i64,
+    latitude: LocalLatitude,
+    longitude: LocalLongitudeAnswer,
+) -> PlaceAnswer
+    ensures { λ r. ⌜ placeAnswer r ≡ withLongitude code (latitude .0) (localLongitude longitude) ⌝ }
+{
+    match longitude {
+        LocalLongitudeAnswer::Gives(longitude) => PlaceAnswer::Gives(Place {
+            code,
+            latitude,
+            longitude,
+        }),
+        LocalLongitudeAnswer::Refused(why) => PlaceAnswer::Refused(why),
+    }
+}
+
+// Of a line whose latitude is refused: the lower number of the two, since a wrong byte comes before what is out of range.
+fn first_refusal(latitude: Refusal, longitude: LocalLongitudeAnswer) -> Refusal
+    ensures { λ r. ⌜ numberOf r ≡ firstRefusal (numberOf latitude) (localLongitude longitude) ⌝ }
+{
+    if let LocalLongitudeAnswer::Refused(why) = longitude {
+        if why.number() < latitude.number() {
+            return why;
+        }
+    }
+    latitude
+}
+
+// Answers the point of a line that was read.
+fn answered(place: Place, out: &mut [u8]) -> WrittenAnswer
+    ensures { λ r. ⌜ written r ≡ counted (answeredOf (placeSays place) (length (now (out .entry)))) ⌝ }
+    ensures { λ r. ⌜ now (out .exit) ≡ lent (answeredOf (placeSays place) (length (now (out .entry)))) (now (out .entry)) ⌝ }
+{
+    match datum::answer(
+        place.code,
+        place.latitude.ms() as i64,
+        place.longitude.ms() as i64,
+    ) {
+        PointAnswer::Shift(shifts) => put_shift(shifts, out),
+        PointAnswer::Geoid(height) => put_geoid(height, out),
+        PointAnswer::Refused(why) => WrittenAnswer::Refused(why),
+    }
+}
+
+fn put_shift(shifts: Shifts, out: &mut [u8]) -> WrittenAnswer
+    ensures { λ r. ⌜ written r ≡ counted (placed (answerLine (shiftSays shifts)) (length (now (out .entry)))) ⌝ }
+    ensures { λ r. ⌜ now (out .exit) ≡ lent (placed (answerLine (shiftSays shifts)) (length (now (out .entry)))) (now (out .entry)) ⌝ }
+{
+    let mut line = [0; ANSWER];
+    let end = shift_line(shifts, &mut line);
+    put(&line[..end], out)
+}
+
+fn put_geoid(height: Height, out: &mut [u8]) -> WrittenAnswer
+    ensures { λ r. ⌜ written r ≡ counted (placed (answerLine (geoidSays height)) (length (now (out .entry)))) ⌝ }
+    ensures { λ r. ⌜ now (out .exit) ≡ lent (placed (answerLine (geoidSays height)) (length (now (out .entry)))) (now (out .entry)) ⌝ }
+{
+    let mut line = [0; ANSWER];
+    let end = number_and(height.mm(), b'\n', &mut line);
+    put(&line[..end], out)
+}
+
+// The line of a shift, at the start of what is lent.
+fn shift_line(shifts: Shifts, line: &mut [u8]) -> usize
+    requires { ⌜ 36 ≤ length (now line) ⌝ }
+    ensures { λ r. ⌜ r ≡ length (answerLine (shiftSays shifts)) ⌝ }
+    ensures { λ r. ⌜ now (line .exit) ≡ answerLine (shiftSays shifts) ++ drop r (now (line .entry)) ⌝ }
+{
+    let second = number_and(shifts.latitude.units(), b' ', line);
+    let third = second + number_and(shifts.longitude.units(), b' ', &mut line[second..]);
+    third + number_and(shifts.height.mm(), b'\n', &mut line[third..])
+}
+
+// A number and the byte that follows it, at the start of what is lent.
+fn number_and(n: i32, next: u8, line: &mut [u8]) -> usize
+    requires { ⌜ 12 ≤ length (now line) ⌝ }
+    ensures { λ r. ⌜ r ≡ length (printedNumber n) + 1 ⌝ }
+    ensures { λ r. ⌜ now (line .exit) ≡ (printedNumber n ++ next ∷ []) ++ drop r (now (line .entry)) ⌝ }
+{
+    let at = number::signed(n, line);
+    line[at] = next;
+    at + 1
+}
