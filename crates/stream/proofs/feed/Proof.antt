@@ -1,0 +1,115 @@
+-- `stream::feed` meets its contract. Assumes nothing.
+use Prim.Native.Nat.{_-_}
+use native.Mathlib.Omega.{arith}
+use borrow.Author.Needs.{needs}
+use Rattle.stream.specs.Stream.{held}
+use Rattle.stream.proofs.Feeding.{Good, start, put-within, long, lent-room, sum-fits, turn, whole}
+use Rattle.stream.proofs.feed.Statement.{statement}
+use Rattle.stream.proofs.feed.Tie as tie
+
+abbrev Inv-loop : tie.InvT-loop
+Inv-loop bytes out₀ taken line₀ from₀ put₀ end₀ out line from put end = Good bytes (held line₀) out₀ taken out (held line) from put end
+
+abbrev μ-loop : tie.MeasureT-loop
+μ-loop bytes out₀ taken line₀ from₀ put₀ end₀ out line from put end = taken - from
+
+bytes-for-requires : tie.Need-bytes-for-requires Inv-loop μ-loop
+bytes-for-requires c κs = search needs
+
+least-requires : tie.Need-least-requires Inv-loop μ-loop
+least-requires c κs = search needs
+
+find-requires : tie.Need-find-requires Inv-loop μ-loop
+find-requires c κs = search needs
+
+loop-holds : tie.Need-loop-holds Inv-loop μ-loop
+loop-holds c = start _ _ _ (c .before .least .ensures) (c .before .before .bytes-for .ensures) (c .find .ensures .0) (c .find .ensures .1)
+
+sub-ended : tie.Need-sub-ended Inv-loop μ-loop
+sub-ended c = search needs
+
+part-ended-start : tie.Need-part-ended-start Inv-loop μ-loop
+part-ended-start c = search needs
+
+part-ended-end : tie.Need-part-ended-end Inv-loop μ-loop
+part-ended-end c = search needs
+
+sub-ended-2 : tie.Need-sub-ended-2 Inv-loop μ-loop
+sub-ended-2 c = omega (arith, put-within (c .before .before .loop .inv))
+
+part-ended-start-2 : tie.Need-part-ended-start-2 Inv-loop μ-loop
+part-ended-start-2 c = put-within (c .before .before .loop .inv)
+
+part-ended-end-2 : tie.Need-part-ended-end-2 Inv-loop μ-loop
+part-ended-end-2 c = search needs
+
+ended-requires : tie.Need-ended-requires Inv-loop μ-loop
+ended-requires c κs = lent-room (c .before .before .before .loop .inv) (c .before .before .loop-test .taken)
+
+add-put : tie.Need-add-put Inv-loop μ-loop
+add-put c = omega (arith, sum-fits (c .before .before .before .before .before .before .loop .inv) (c .before .before .before .before .before .loop-test .taken) (c .before .before .ended .ensures .0))
+
+none-requires : tie.Need-none-requires Inv-loop μ-loop
+none-requires c κs = search needs
+
+add-from : tie.Need-add-from Inv-loop μ-loop
+add-from c = search needs
+
+find-requires-2 : tie.Need-find-requires-2 Inv-loop μ-loop
+find-requires-2 c κs = search needs
+
+loop-less : tie.Need-loop-less Inv-loop μ-loop
+loop-less c = search needs
+
+loop-again : tie.Need-loop-again Inv-loop μ-loop
+loop-again c =
+    let put = c .before .before .before .before .ended .ensures in
+    turn (c .before .before .before .before .before .before .before .before .loop .inv) (c .before .before .before .before .before .before .before .loop-test .taken) _ _ _ _ (c .before .none .ensures) (put .0) (put .1) (c .find2 .ensures .0) (c .find2 .ensures .1)
+
+sub-extended : tie.Need-sub-extended Inv-loop μ-loop
+sub-extended c = search needs
+
+part-extended-start : tie.Need-part-extended-start Inv-loop μ-loop
+part-extended-start c = search needs
+
+part-extended-end : tie.Need-part-extended-end Inv-loop μ-loop
+part-extended-end c = search needs
+
+extended-requires : tie.Need-extended-requires Inv-loop μ-loop
+extended-requires c κs = search needs
+
+same-length : tie.Need-same-length Inv-loop μ-loop
+same-length c = long (c .before .before .before .loop .inv)
+
+returns : tie.Need-returns Inv-loop μ-loop
+returns c = whole (c .before .before .before .loop .inv) (c .before .before .loop-test .left) _ (c .extended .ensures)
+
+pub feed-spec : {M : Type 1} → statement M
+feed-spec =
+    tie.close
+    (tie.spec
+    Inv-loop
+    μ-loop
+    bytes-for-requires
+    least-requires
+    find-requires
+    loop-holds
+    sub-ended
+    part-ended-start
+    part-ended-end
+    sub-ended-2
+    part-ended-start-2
+    part-ended-end-2
+    ended-requires
+    add-put
+    none-requires
+    add-from
+    find-requires-2
+    loop-less
+    loop-again
+    sub-extended
+    part-extended-start
+    part-extended-end
+    extended-requires
+    same-length
+    returns)

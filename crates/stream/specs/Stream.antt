@@ -1,0 +1,78 @@
+-- Document 01, 'The line program': the lines of an input, and what is printed for them.
+use mathlib.Core.Bool.{cond}
+use mathlib.Core.List.{List, [], _∷_, _++_, flatMap}
+use Prim.Native.Nat.{ℕ, _-_, _/_, min}
+use lib.Dec.{eqb}
+use lib.IntN.{ℤ}
+use lib.ListN.{length, take, replicate}
+use Rattle.kinds.specs.Answer.{Answer, gives, refused}
+use Rattle.position.specs.Text.{byteOf}
+use Rattle.datum.specs.Page.{Family}
+use Rattle.line.specs.Line.{space, lineFeed, answerLine, pointOf}
+use Rattle.stream.specs.declared.Begun.{Begun}
+
+-- ---- a line out
+-- '`refused` and the number'
+unfoldable pub refusedLine : ℕ → List ℕ
+refusedLine number = 114 ∷ 101 ∷ 102 ∷ 117 ∷ 115 ∷ 101 ∷ 100 ∷ space ∷ byteOf number ∷ lineFeed ∷ []
+
+-- 'dLat, dLon and dH .., or N alone, or `refused` and the number'
+abbrev pub said : Answer (Family ℤ) → List ℕ
+said (gives values) = answerLine values
+said (refused number) = refusedLine number
+
+unfoldable pub printed : List ℕ → List ℕ
+printed line = said (pointOf line)
+
+-- ---- lines in
+-- lines, each with its line feed
+abbrev pub terminated : List (List ℕ) → List ℕ
+terminated ls = flatMap (λ line. line ++ lineFeed ∷ []) ls
+
+-- the lines that end in some bytes, where the first is begun before them
+unfoldable pub ended : List ℕ → List ℕ → List (List ℕ)
+ended begun [] = []
+ended begun (byte ∷ rest) = cond (eqb byte lineFeed) (begun ∷ ended [] rest) (ended (begun ++ byte ∷ []) rest)
+
+-- the line that is begun after them
+unfoldable pub begunAfter : List ℕ → List ℕ → List ℕ
+begunAfter begun [] = begun
+begunAfter begun (byte ∷ rest) = cond (eqb byte lineFeed) (begunAfter [] rest) (begunAfter (begun ++ byte ∷ []) rest)
+
+-- 'A last line with bytes but no line feed counts'
+abbrev pub last : List ℕ → List (List ℕ)
+last [] = []
+last (byte ∷ rest) = (byte ∷ rest) ∷ []
+
+abbrev pub lines : List ℕ → List (List ℕ)
+lines input = ended [] input ++ last (begunAfter [] input)
+
+-- 'It prints one line each'; 'It reads at most 100,000,000 bytes and then goes on as if the input ended there'
+abbrev pub output : List ℕ → List ℕ
+output input = flatMap printed (lines (take 100000000 input))
+
+-- ---- an input in pieces
+-- what is held of a line between two pieces, and how it is kept: 27 bytes, which are enough to refuse a longer line
+abbrev pub held : Begun → List ℕ
+held begun = take (begun .count) (begun .bytes)
+
+unfoldable pub kept : List ℕ → Begun
+kept line = record { bytes = take 27 (line ++ replicate 27 0); count = min 27 (length line) }
+
+-- how many bytes are taken: for the first there must be room for 36 bytes, and for each one more for 10
+unfoldable pub takenOf : List ℕ → ℕ → ℕ
+takenOf bytes room = min (length bytes) ((room - 26) / 10)
+
+-- what is printed for the lines that end in some bytes
+unfoldable pub answers : List ℕ → List ℕ → List ℕ
+answers begun bytes = flatMap printed (ended begun bytes)
+
+-- the line feed by which a line that is begun ends at the end of an input
+unfoldable pub closing : List ℕ → List ℕ
+closing [] = []
+closing (byte ∷ rest) = lineFeed ∷ []
+
+-- what is printed in all for pieces that are fed one after the other, each of which is taken whole, and for the end
+abbrev pub fed : Begun → List (List ℕ) → List ℕ
+fed begun [] = answers (held begun) (closing (held begun))
+fed begun (piece ∷ pieces) = answers (held begun) piece ++ fed (kept (begunAfter (held begun) piece)) pieces
