@@ -8,7 +8,7 @@ import re
 import sys
 
 COLUMNS = ['promise', 'definition', 'function', 'theorem', 'must-fail edits', 'run']
-FINISHED = ['Positions', 'The six areas', 'The working rule', 'Floating numbers', 'The unit sheet and its result']
+FINISHED = ['Positions', 'The six areas', 'The working rule', 'Floating numbers', 'The unit sheet and its result', 'Refusal numbers', 'The line program']
 
 
 def declared(pattern, expression):

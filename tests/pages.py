@@ -253,18 +253,24 @@ def at(text, place):
     return f'byte {place}: {out}'
 
 
+def spelled(form, ms):
+    """A number in range as its text."""
+    places, letters = form[:2]
+    rest, f = divmod(abs(ms), 1000)
+    rest, s = divmod(rest, 60)
+    d, m = divmod(rest, 60)
+    return f'{d:0{places}d}{m:02d}{s:02d}.{f:03d}{letters[ms < 0]}'
+
+
 def write(form, ms, room):
     """The answer, and 14 bytes of which the first are lent."""
-    places, letters, least, largest = form
+    places, _, least, largest = form
     out = '#' * 14
     if not least <= ms <= largest:
         return '3' + out
     if room < places + 9:
         return '7' + out
-    rest, f = divmod(abs(ms), 1000)
-    rest, s = divmod(rest, 60)
-    d, m = divmod(rest, 60)
-    text = f'{d:0{places}d}{m:02d}{s:02d}.{f:03d}{letters[ms < 0]}'
+    text = spelled(form, ms)
     return f'({len(text)})' + text + out[len(text):]
 
 

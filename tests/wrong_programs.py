@@ -1,5 +1,5 @@
 #!/usr/bin/env python3
-"""Each must-fail edit of a source is a wrong program: built with it and run with no proof, its test program does not print
+"""Each must-fail edit of a source is a wrong program: built with it and run with no proof, its program does not print
 what it must, or a run that checks the machine's rules stops.
 
 This is what a refusal alone does not show, since the prover also refuses a right program that the proof was not written
@@ -13,8 +13,8 @@ import sys
 import tempfile
 from concurrent.futures import ThreadPoolExecutor
 
-# the test program that runs a crate, where it is not `pages`
-PROGRAMS = {'sheet': 'sheets'}
+# the program that runs a crate, where it is not `pages`
+PROGRAMS = {'sheet': 'sheets', 'line': 'points', 'stream': 'lines', 'lines': 'lines'}
 
 
 def program(edit):
@@ -22,7 +22,7 @@ def program(edit):
 
 
 def tried(name, edit=None):
-    """What `rt try` says of a test program in a copy of the sources with this edit: its status and its words."""
+    """What `rt try` says of a program in a copy of the sources with this edit: its status and its words."""
     room = tempfile.mkdtemp()
     try:
         shutil.copy('crates.txt', room)
@@ -59,7 +59,7 @@ def of_source(edit):
 
 
 wrong = []
-for name in ('pages', *PROGRAMS.values()):
+for name in {'pages', *PROGRAMS.values()}:
     status, said = tried(name)
     if status != 0:
         wrong.append(f'{name}, unedited, ends with {status}: {said[:200]}')
@@ -71,5 +71,5 @@ for edit, (status, said) in zip(edits, runs):
         wrong.append(f'{edit}: {program(edit)} prints what it must all the same')
     elif 'FAIL: ' not in said:
         wrong.append(f'{edit}: it was not run: {said[:200]}')
-print('\n'.join(wrong) or f'wrong programs: {len(edits)} edits, each seen to go wrong in its test program')
+print('\n'.join(wrong) or f'wrong programs: {len(edits)} edits, each seen to go wrong in its program')
 sys.exit(1 if wrong or not edits else 0)
