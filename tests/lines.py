@@ -101,8 +101,8 @@ def at(code, latitude, longitude):
     return f'{code} {spelled(LATITUDE, latitude)} {spelled(LONGITUDE, longitude)}'.encode()
 
 
-def around(code):
-    """The corners of the area, and 1 ms outside."""
+def corners(code):
+    """Each end of the area, and 1 ms outside it, in one coordinate with each in the other."""
     south, north, west, east = AREAS[code]
     return [(code, *place) for place in product((south - 1, south, north, north + 1), (west - 1, west, east, east + 1))]
 
@@ -123,7 +123,7 @@ def pairs():
 def given():
     """What `lines` is run on, in many reads. The last line has no line feed."""
     places = [centre(code) for code in AREAS] + [place[:3] for place in PRINTED] + OTHERS + list(NUMBERS.values())
-    places += [place for code in AREAS for place in around(code)]
+    places += [place for code in AREAS for place in corners(code)]
     lines = [at(*place) for place in places] + [b'%d' % digit + GOOD[1:] for digit in range(10)]
     lines += [wrong(fault) for fault in FAULTS] + [wrong(*pair) for pair in pairs()]
     lines += [(GOOD + b' 123')[:size] for size in range(31)] + [b'', b'', GOOD * 200, GOOD]

@@ -26,6 +26,7 @@ use Rattle.line.specs.Form.{lineBytes}
 use Rattle.line.proofs.Calls.{in-range}
 use Rattle.line.proofs.Form as form
 use Rattle.line.proofs.Apart as apart
+use Rattle.line.proofs.Lines as lines
 
 -- ---- 'code digit, space, latitude text, space, longitude text; 26 bytes before the line feed'
 -- a line that was read is answered as the point that it says, by the call that takes both families
@@ -108,11 +109,15 @@ pub orders : Orders
 unfolding isAngle inSixties angle allDigits number fromPlaces digitOf
 orders = record { empty = refl; too-long = refl; length-and-kind = refl; code-and-range = refl; space-and-range = refl; second-and-range = refl; kind-and-range = refl; range-and-code = refl; code-and-area = refl; area-and-room = refl }
 
+-- the answer of a line is that of its point
+of-point : (line : List ℕ) {values : Family ℤ} → pointOf line ≡ gives values → answerOf (code line) (latitudeOf line) (longitudeOf line) ≡ gives values
+of-point line {values} h =
+    let (a, (b, (c, _))) = kinds.given-where (tests line) _ values .0 h .0 in
+    sym (answered-as line (a, (b, (c, tt)))) ∙ h
+
 -- ---- demand 3: each number of an answer is within 2, 2 and 1 units of the exact value
 pub near : (line : List ℕ) {values : Family ℤ} → pointOf line ≡ gives values → AllWithin 1 (demanded values) (exact (pageOf (code line)) (latitudeOf line) (longitudeOf line)) values
-near line {values} h =
-    let (a, (b, (c, _))) = kinds.given-where (tests line) _ values .0 h .0 in
-    datum.as-demanded isEither (code line) (latitudeOf line) (longitudeOf line) (sym (answered-as line (a, (b, (c, tt)))) ∙ h)
+near line h = datum.as-demanded isEither (code line) (latitudeOf line) (longitudeOf line) (of-point line h)
 
 -- ---- 'A minus sign stands first and the digits follow it .., without leading zeros; zero is `0`'
 -- of a number below zero the digits are those of its size
@@ -135,6 +140,14 @@ one-text t all some few first = apart.one-text t all some few first
 -- so two 4-byte numbers that are printed alike are the same
 pub printed-apart : (x y : ℤ) → isFourBytes x ≡ true → isFourBytes y ≡ true → printedNumber x ≡ printedNumber y → x ≡ y
 printed-apart x y f g h = apart.printed-apart x y f g h
+
+-- and two answers that are printed alike are the same: the line tells its numbers, and which family they are of
+pub answers-apart : (line other : List ℕ) {v w : Family ℤ} → pointOf line ≡ gives v → pointOf other ≡ gives w → answerLine v ≡ answerLine w → v ≡ w
+answers-apart line other {v} {w} h k same =
+    lines.lines-apart v w
+    (datum.four-bytes isEither (code line) (latitudeOf line) (longitudeOf line) (of-point line h))
+    (datum.four-bytes isEither (code other) (latitudeOf other) (longitudeOf other) (of-point other k))
+    same
 
 -- numbers as they are printed: 0, 7, -7, 10, the largest of 4 bytes and the least
 pub record Printed : Type 0 where

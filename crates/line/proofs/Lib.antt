@@ -11,6 +11,8 @@ pub mod Writing
 pub mod Calls
 -- a line as it is printed: how long it is, and where its line feed is
 pub mod Printing
+-- lines that are printed alike have the same numbers
+pub mod Lines
 -- a line that is made of a digit and a position is read as them, and a line that is read was so made
 pub mod Form
 -- what document 01 asks of one line
