@@ -16,7 +16,7 @@ use Rattle.whole.proofs.Below.{below}
 use Rattle.whole.proofs.Bools.{both}
 use Rattle.whole.proofs.Ring.{pos-sub}
 use Rattle.whole.proofs.Sizes.{abs-sub}
-use Rattle.whole.proofs.Products.{product-size}
+use Rattle.whole.proofs.Rounding.{product-size}
 use Rattle.whole.proofs.Words.{small}
 use Rattle.kinds.specs.Kinds.{within}
 use Rattle.equation.specs.Powers.{powersOf}

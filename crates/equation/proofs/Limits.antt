@@ -9,8 +9,7 @@ use lib.IntN.{ℤ, pos, natAbs}
 use mir.Facts.{and-yes}
 use Rattle.whole.specs.Round.{nearest, scale}
 use Rattle.whole.proofs.Sizes.{abs-*-≤, abs-round}
-use Rattle.whole.proofs.Rounding.{nearest-mono}
-use Rattle.whole.proofs.Products.{product-size}
+use Rattle.whole.proofs.Rounding.{nearest-mono, product-size}
 use Rattle.equation.specs.Powers.{powersOf}
 use Rattle.equation.specs.Equation.{Term, term, amongTen, product, equationOf}
 use Rattle.equation.specs.Room.{Fitting, EachFits, sizes, Room}

@@ -1,19 +1,46 @@
--- The powers: which stands where, and how large it can be. Assumes nothing.
-use mathlib.Core.Path.{_≡_, refl, ap, _∙_}
-use mathlib.Core.Bool.{Bool, true, false}
+-- The powers: which stands where, how large it can be, and its sign. Assumes nothing.
+use mathlib.Core.Path.{_≡_, refl, sym, ap, _∙_}
+use mathlib.Core.Bool.{Bool, true, false, not, _&&_}
 use mathlib.Core.List.{[], _∷_, _++_}
-use Prim.Native.Nat.{ℕ, zero, suc, _+_, _*_, _<_, _≤_}
-use native.Mathlib.Nat.{le-refl, not-suc-le-zero}
+use Prim.Native.Nat.{ℕ, zero, suc, _+_, _*_, _%_, _<_, _≤_, zero-le}
+use native.Mathlib.Nat.{le-refl, mul-le-mul, not-suc-le-zero}
 use native.Mathlib.Numerals.{add-one}
 use native.Mathlib.Omega.{arith}
-use lib.Dec.{ltb}
-use borrow.Author.Tests.{ltb-true, ltb-false}
+use lib.Dec.{ltb, eqb}
+use borrow.Author.Tests.{ltb-true, ltb-false, le-ltb}
 use lib.ListN.{length, getD, length-append, List·getD-append}
 use lib.Seq.{getD-at}
-use lib.IntN.{ℤ, natAbs, _*ℤ_}
+use lib.IntN.{ℤ, pos, negsuc, natAbs, _*ℤ_}
+use lib.Signed.{nonNeg, ltZ}
 use Rattle.whole.specs.Round.{nearest, roundDiv}
-use Rattle.whole.proofs.Products.{product-size}
+use Rattle.whole.proofs.Signs.{signed, alike, by-sign, signed-*, signed-round}
+use Rattle.whole.proofs.Rounding.{nearest-mono, product-size}
 use Rattle.equation.specs.Powers.{power, powersOf}
+
+-- the sign of the nth power, of a number whose sign is s: below zero the odd ones are below zero, and no other
+abbrev pub sign : Bool → ℕ → Bool
+sign s zero = true
+sign s (suc n) = alike (sign s n) s
+
+pub sign-is : (u : ℤ) (n : ℕ) → sign (nonNeg u) n ≡ not (ltZ u (pos 0) && eqb (n % 2) 1)
+sign-is (pos a) n = above n ∙ ap (λ (t : Bool). not (t && eqb (n % 2) 1)) (sym (le-ltb a 0 zero-le))
+  where
+    above : (n : ℕ) → sign true n ≡ true
+    above zero = refl
+    above (suc n) = ap (λ (s : Bool). alike s true) (above n)
+sign-is (negsuc a) n = below n
+  where
+    twice : (s : Bool) → alike (alike s false) false ≡ s
+    twice true = refl
+    twice false = refl
+
+    same : (n : ℕ) → n % 2 ≡ suc (suc n) % 2
+    same n = omega arith
+
+    below : (n : ℕ) → sign false n ≡ not (eqb (n % 2) 1)
+    below zero = refl
+    below (suc zero) = refl
+    below (suc (suc n)) = twice (sign false n) ∙ below n ∙ ap (λ (m : ℕ). not (eqb m 1)) (same n)
 
 module _ (scale : ℕ) where
   -- ---- which stands where
@@ -50,3 +77,19 @@ module _ (scale : ℕ) where
   power-size p u h zero = le-refl scale
   power-size p u h (suc zero) = h
   power-size p u h (suc (suc n)) = product-size (power scale u (suc n)) u p (power-size p u h (suc n)) h
+
+  pub limit-next : (m n : ℕ) → 1 ≤ n → limit m (n + 1) ≡ nearest (limit m n * m) scale
+  limit-next m zero h = absurd (not-suc-le-zero h)
+  limit-next m (suc n) h = ap (limit m) (add-one (suc n))
+
+  pub limit-mono : 0 < scale → {a b : ℕ} → a ≤ b → (n : ℕ) → limit a n ≤ limit b n
+  limit-mono p h zero = le-refl scale
+  limit-mono p h (suc zero) = h
+  limit-mono p h (suc (suc n)) = nearest-mono p (mul-le-mul (limit-mono p h (suc n)) h)
+
+  -- ---- a power by its sign and its size
+  pub power-signed : (u : ℤ) (n : ℕ) → power scale u n ≡ signed (sign (nonNeg u) n) (limit (natAbs u) n)
+  unfolding power
+  power-signed u zero = refl
+  power-signed u (suc zero) = by-sign u
+  power-signed u (suc (suc n)) = (λ i. roundDiv (power-signed u (suc n) i *ℤ by-sign u i) scale) ∙ simp (signed-*, signed-round)

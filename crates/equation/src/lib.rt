@@ -9,17 +9,20 @@ ghost use Rattle.equation.specs.Equation.{terms, equationOf};
 ghost use Rattle.equation.specs.Room.{Room};
 
 // The powers of u from the zeroth to the ninth, in hundred-millionths, each the one before times u, rounded.
+// They are worked by their sizes. Where u is below zero the odd ones are too, and no other.
 pub fn powers(u: i64) -> [i64; 10]
     requires { ⌜ natAbs u ≤ 1000000000 ⌝ }
     ensures { λ r. ⌜ r ≡ powersOf scale u 10 ⌝ }
 {
+    let size = whole::size(u);
     let mut out = [whole::SCALE; 10];
     out[1] = u;
-    let mut power = u;
+    let mut power = size;
     let mut k: usize = 2;
     while k < 10 {
-        power = whole::scaled(power, u);
-        out[k] = power;
+        power = whole::scaled(power, size);
+        let next = power as i64;
+        out[k] = if (u < 0) & (k % 2 == 1) { -next } else { next };
         k += 1;
     }
     out

@@ -3,7 +3,7 @@
 use mathlib.Core.Path.{_≡_, refl, sym, ap, _∙_, subst}
 use mathlib.Core.Bool.{Bool, true}
 use mathlib.Core.List.{List, [], _∷_, map}
-use Prim.Native.Nat.{ℕ, _<_, _^_}
+use Prim.Native.Nat.{ℕ, _<_, _≤_, _^_}
 use native.Mathlib.Omega.{arith}
 use lib.Dec.{leb, ltb}
 use lib.ListN.{length, length-map}
@@ -27,12 +27,16 @@ is-digit d h =
     let u = ltb-true d 10 h in
     joined (le-leb 48 (byteOf d) (omega arith)) (le-leb (byteOf d) 57 (omega arith))
 
+pub digit-limits : (b : ℕ) → isDigit b ≡ true → (48 ≤ b) × (b ≤ 57)
+digit-limits b h =
+    let p = both (leb 48 b) (leb b 57) h in
+    (leb-true 48 b (p .0), leb-true b 57 (p .1))
+
 digit-back : (b : ℕ) → isDigit b ≡ true → (below-ten (digitOf b) ≡ true) × (byteOf (digitOf b) ≡ b)
 unfolding digitOf
 digit-back b h =
-    let l = leb-true 48 b (both (leb 48 b) (leb b 57) h .0) in
-    let u = leb-true b 57 (both (leb 48 b) (leb b 57) h .1) in
-    (lt-ltb (digitOf b) 10 (omega arith), omega arith)
+    let l = digit-limits b h in
+    (lt-ltb (digitOf b) 10 (omega (arith, l .0, l .1)), omega (arith, l .0, l .1))
 
 -- ---- a list of them
 digits-there : (s : List ℕ) → map digitOf (map byteOf s) ≡ s

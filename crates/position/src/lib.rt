@@ -8,12 +8,13 @@ use kinds::Refusal;
 use kinds::WrittenAnswer;
 use kinds::put;
 ghost use mathlib.Core.Path.{_≡_};
+ghost use mathlib.Core.Bool.{true};
 ghost use Prim.Native.Nat.{_+_, _%_, _<_, _≤_};
 ghost use lib.ListN.{length};
 ghost use Rattle.kinds.specs.Answer.{counted, lent};
 ghost use Rattle.kinds.specs.Bytes.{part};
 ghost use Rattle.kinds.specs.Cases.{localLatitude, localLongitude, written};
-ghost use Rattle.position.specs.Text.{latitude, longitude, isDigit, digitOf, allDigits, number, isAngle, inSixties, angle, read, spelled, write};
+ghost use Rattle.position.specs.Text.{latitude, longitude, isDigit, digitOf, allDigits, number, isAngle, inSixties, angle, signed, read, spelled, write};
 
 // Reads the 11 bytes `ddmmss.sssN` or `S` into ms, north positive: `900000.000N` is 324000000. Refused: 1 another length, 2 a
 // byte that is not of its kind, 3 minutes or seconds from 60 up, past 90°, or S after zero.
@@ -27,14 +28,14 @@ pub fn read_latitude(text: &[u8]) -> LocalLatitudeAnswer
     if !(is_angle(text) & ((letter == b'N') | (letter == b'S'))) {
         return LocalLatitudeAnswer::Refused(Refusal::Kind);
     }
-    let ms = angle(text);
-    if !(in_sixties(text) & !((letter == b'S') & (ms == 0))) {
+    if !in_sixties(text) {
         return LocalLatitudeAnswer::Refused(Refusal::Range);
     }
-    if letter == b'S' {
-        return LocalLatitude::new(-(ms as i64));
+    let ms = angle(text);
+    if (letter == b'S') & (ms == 0) {
+        return LocalLatitudeAnswer::Refused(Refusal::Range);
     }
-    LocalLatitude::new(ms as i64)
+    LocalLatitude::new(signed(letter, ms))
 }
 
 // Reads the 12 bytes `dddmmss.sssE` into ms, east positive: `0330000.000E` is 118800000. Refused: 1 another length, 2 a byte
@@ -105,12 +106,13 @@ fn is_digit(b: u8) -> bool
     (b'0' <= b) & (b <= b'9')
 }
 
-// What a digit says; 0 of a byte below them.
+// What a digit says.
 fn digit(b: u8) -> u64
+    requires { ⌜ isDigit b ≡ true ⌝ }
     ensures { λ r. ⌜ r ≡ digitOf b ⌝ }
-    ensures { λ r. ⌜ r < 208 ⌝ }
+    ensures { λ r. ⌜ r < 10 ⌝ }
 {
-    if b < b'0' { 0 } else { (b - b'0') as u64 }
+    b as u64 - b'0' as u64
 }
 
 // Two digits at a place of t: whether they are, and what they say.
@@ -123,8 +125,9 @@ fn is_pair(t: &[u8], at: usize) -> bool
 
 fn pair(t: &[u8], at: usize) -> u64
     requires { ⌜ at + 2 ≤ length (now t) ⌝ }
+    requires { ⌜ allDigits (part at 2 (now t)) ≡ true ⌝ }
     ensures { λ r. ⌜ r ≡ number (part at 2 (now (t .entry))) ⌝ }
-    ensures { λ r. ⌜ r < 2288 ⌝ }
+    ensures { λ r. ⌜ r < 100 ⌝ }
 {
     digit(t[at]) * 10 + digit(t[at + 1])
 }
@@ -144,6 +147,7 @@ fn is_angle(t: &[u8]) -> bool
 // Minutes and seconds are below 60.
 fn in_sixties(t: &[u8]) -> bool
     requires { ⌜ length (now t) ≡ 11 ⌝ }
+    requires { ⌜ isAngle latitude (now t) ≡ true ⌝ }
     ensures { λ r. ⌜ r ≡ inSixties latitude (now (t .entry)) ⌝ }
 {
     (pair(t, 2) < 60) & (pair(t, 4) < 60)
@@ -152,13 +156,26 @@ fn in_sixties(t: &[u8]) -> bool
 // The ms that they say.
 fn angle(t: &[u8]) -> u64
     requires { ⌜ length (now t) ≡ 11 ⌝ }
+    requires { ⌜ isAngle latitude (now t) ≡ true ⌝ }
     ensures { λ r. ⌜ r ≡ angle latitude (now (t .entry)) ⌝ }
-    ensures { λ r. ⌜ r < 9_000_000_000 ⌝ }
+    ensures { λ r. ⌜ r < 400_000_000 ⌝ }
 {
     pair(t, 0) * DEGREE
         + pair(t, 2) * MINUTE
         + pair(t, 4) * SECOND
         + (digit(t[7]) * 100 + pair(t, 8))
+}
+
+// S is below zero.
+fn signed(letter: u8, ms: u64) -> i64
+    requires { ⌜ ms < 400_000_000 ⌝ }
+    ensures { λ r. ⌜ r ≡ signed letter ms ⌝ }
+{
+    if letter == b'S' {
+        -(ms as i64)
+    } else {
+        ms as i64
+    }
 }
 
 // The last digit of n, as a byte.

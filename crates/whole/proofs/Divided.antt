@@ -3,13 +3,13 @@
 use mathlib.Core.Path.{sym, subst}
 use Prim.Native.Nat.{ℕ, _-_, _/_, _<_}
 use native.Mathlib.Omega.{arith}
-use lib.IntN.{ℤ, pos, _+ℤ_, _-ℤ_, _*ℤ_}
+use lib.IntN.{ℤ, pos, _+ℤ_}
 use lib.Signed.{mag-rem, quotZ, remZ}
 use mir.Syntax.{Width}
 use mir.Val.{SFits, toZ}
 use mir.ValLaws.{sfits-le}
 use Rattle.whole.specs.Round.{roundDiv}
-use Rattle.whole.proofs.Signs.{quot-rem, mag-quot, mag-times}
+use Rattle.whole.proofs.Signs.{mag-quot}
 use Rattle.whole.proofs.Rounding.{round-by-rest, mag-round}
 use Rattle.whole.proofs.Words.{Holds, wr, to, asks, gives, not-zero}
 
@@ -28,22 +28,6 @@ module _ {w : Width} {n : ℤ} {a b : ℕ} {d : ℕ} (n-is : Holds w a n) (d-is 
 
   pub rem-is : Holds w (wr w remZ a b) (remZ n (pos d))
   rem-is = gives remZ n-is d-is rem-fits
-
-  -- the remainder, as what the quotient leaves
-  times-fits : SFits w (quotZ n (pos d) *ℤ pos d)
-  times-fits = sfits-le (mag-times n d) (n-is .holds)
-
-  left-fits : SFits w (n -ℤ quotZ n (pos d) *ℤ pos d)
-  left-fits = subst (SFits w) (sym (quot-rem n d)) rem-fits
-
-  pub times-asks : SFits w (toZ w (wr w quotZ a b) *ℤ toZ w b)
-  times-asks = asks _*ℤ_ quot-is d-is times-fits
-
-  pub left-asks : SFits w (toZ w a -ℤ toZ w (wr w _*ℤ_ (wr w quotZ a b) b))
-  left-asks = asks _-ℤ_ n-is (gives _*ℤ_ quot-is d-is times-fits) left-fits
-
-  pub left-is : Holds w (wr w _-ℤ_ a (wr w _*ℤ_ (wr w quotZ a b) b)) (remZ n (pos d))
-  left-is = to (quot-rem n d) (gives _-ℤ_ n-is (gives _*ℤ_ quot-is d-is times-fits) left-fits)
 
 -- c is the half of d, rounded up
 module _ {w : Width} {n : ℤ} {a b c : ℕ} {d : ℕ} (n-is : Holds w a n) (d-is : Holds w b (pos d)) (half-is : Holds w c (pos (d - d / 2))) (h : 0 < d) where

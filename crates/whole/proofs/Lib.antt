@@ -1,14 +1,12 @@
 -- The laws, by what they are about. Another crate cites them as `Rattle.whole.proofs.NAME`.
 -- ℤ as a ring, and the form in which an identity is one line
 pub mod Ring
--- how large: `natAbs` of a sum, a product, a quotient, a remainder, a rounded quotient
+-- how large: `natAbs` of a sum, a product, a rounded quotient
 pub mod Sizes
 -- a number by its sign and its size, and what a test of the sign says
 pub mod Signs
 -- rounded division: within half, exact, in order, and by the remainder
 pub mod Rounding
--- a rounded product, by the parts of its factors, and its limits
-pub mod Products
 -- signed words at any width: operations, tests, casts, ranges
 pub mod Words
 -- a signed word divided, and rounded

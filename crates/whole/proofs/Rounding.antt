@@ -3,7 +3,7 @@
 use mathlib.Core.Path.{_≡_, refl, sym, ap, _∙_, subst}
 use mathlib.Core.Bool.{Bool, true, false}
 use Prim.Native.Nat.{ℕ, zero, suc, _+_, _-_, _*_, _/_, _%_, _<_, _≤_, suc-le-suc}
-use native.Mathlib.Nat.{le-antisymm, mul-comm, mul-le-mul-left, lt-of-mul-lt-mul-left, lt-of-mul-lt-mul-right, le-div-iff-mul-le, div-add-mod, mod-lt, div-eq-of-lt, div-eq-of-lt-le}
+use native.Mathlib.Nat.{le-antisymm, mul-le-mul-left, lt-of-mul-lt-mul-left, lt-of-mul-lt-mul-right, le-div-iff-mul-le, div-add-mod, mod-lt, div-eq-of-lt, div-eq-of-lt-le}
 use native.Mathlib.Omega.{arith}
 use lib.Dec.{T, leb, leb→le, le→leb}
 use borrow.Author.Tests.{leb-true, leb-false}
@@ -11,7 +11,7 @@ use lib.IntN.{ℤ, pos, negsuc, negℤ, natAbs, _+ℤ_, _-ℤ_, _*ℤ_, negℤ-n
 use lib.Signed.{mag, quotZ, remZ, nonNeg, ltZ, leZ, _≤ℤ_, leZ-yes}
 use Rattle.whole.specs.Round.{nearest, roundDiv}
 use Rattle.whole.proofs.Ring.{by-diff, pos-diff, diff-cong, ring₀, pos-sub, -ℤ-negℤ, negℤ-*ℤ}
-use Rattle.whole.proofs.Sizes.{abs-neg, abs-sub, abs-+, abs--, abs-*, abs-round, abs-zero, same-size}
+use Rattle.whole.proofs.Sizes.{abs-neg, abs-sub, abs-+, abs--, abs-*, abs-*-≤, abs-round, abs-zero, same-size}
 use Rattle.whole.proofs.Signs.{signed, by-sign, signed-+, signed-*-pos, signed-quot, signed-rem, signed-round, signed-mag, below-zero, from-zero}
 
 -- ---- two naturals
@@ -60,14 +60,6 @@ nearest-split a b {d} h =
   where
     whole : d * (a / d) * b + a % d * b ≡ a * b
     whole = omega (arith, ap (λ (n : ℕ). n * b) (div-add-mod a d))
-
-pub nearest-split-both : (a b : ℕ) {d : ℕ} → 0 < d → nearest (a * b) d ≡ a / d * b + (a % d * (b / d) + nearest (a % d * (b % d)) d)
-nearest-split-both a b {d} h =
-    nearest-split a b h
-    ∙ ap (λ (n : ℕ). a / d * b + n)
-    (ap (λ (n : ℕ). nearest n d) (mul-comm (a % d) b)
-    ∙ nearest-split b (a % d) h
-    ∙ (λ i. mul-comm (b / d) (a % d) i + nearest (mul-comm (b % d) (a % d) i) d))
 
 pub nearest-rest : (a : ℕ) {d : ℕ} → 0 < d → nearest a d ≡ a / d + a % d / (d - d / 2)
 nearest-rest a {d} h =
@@ -174,6 +166,10 @@ pub mag-round : (n : ℤ) {d : ℕ} → 0 < d → mag (roundDiv n d) ≤ mag n
 mag-round n {d} h =
     subst (λ (z : ℤ). mag (roundDiv z d) ≤ mag z) (sym (by-sign n))
     (rw signed-round (signed-mag (nonNeg n) _ _ (nearest-≤ (natAbs n) h)))
+
+-- of a product, by the limits of its factors
+pub product-size : (p u : ℤ) {a b d : ℕ} → 0 < d → natAbs p ≤ a → natAbs u ≤ b → natAbs (roundDiv (p *ℤ u) d) ≤ nearest (a * b) d
+product-size p u h k l = rw abs-round (nearest-mono h (abs-*-≤ p u k l))
 
 -- ---- by the quotient and the remainder, as the code works
 pub round-by-rest : (n : ℤ) {d : ℕ} → 0 < d → quotZ n (pos d) +ℤ quotZ (remZ n (pos d)) (pos (d - d / 2)) ≡ roundDiv n d

@@ -2,11 +2,11 @@
 use mathlib.Core.Path.{_≡_, refl, sym, ap, _∙_, subst}
 use mathlib.Core.Bool.{Bool, true, false}
 use Prim.Native.Nat.{ℕ, zero, suc, _+_, _*_, _/_, _%_, _<_, _≤_}
-use native.Mathlib.Nat.{add-zero, zero-add, zero-mul, mul-zero, zero-div, zero-mod, div-le-self, div-mul-le-self, div-eq-of-lt, mod-add-div'}
+use native.Mathlib.Nat.{add-zero, zero-add, zero-mul, mul-zero, zero-div, zero-mod, div-le-self, div-eq-of-lt}
 use native.Mathlib.Omega.{arith}
 use lib.Dec.{T, ltb→lt}
 use borrow.Author.Tests.{ltb-true}
-use lib.IntN.{ℤ, pos, negsuc, negℤ, natAbs, _+ℤ_, _-ℤ_, _*ℤ_, +ℤ-idr, +ℤ-idl, +ℤ-negℤ-cancel}
+use lib.IntN.{ℤ, pos, negsuc, negℤ, natAbs, _+ℤ_, _-ℤ_, _*ℤ_, +ℤ-idr, +ℤ-idl}
 use lib.Signed.{mag, quotZ, remZ, nonNeg, ltZ, _<ℤ_}
 use Rattle.whole.specs.Round.{nearest, roundDiv}
 use Rattle.whole.proofs.Ring.{ -ℤ-negℤ}
@@ -70,17 +70,6 @@ signed-rem true a k = refl
 signed-rem false zero k = zero-signed (zero-mod k)
 signed-rem false (suc a) k = refl
 
--- what a division leaves
-pub quot-rem : (x : ℤ) (k : ℕ) → x -ℤ quotZ x (pos k) *ℤ pos k ≡ remZ x (pos k)
-quot-rem x k =
-    subst (λ (z : ℤ). z -ℤ quotZ z (pos k) *ℤ pos k ≡ remZ z (pos k)) (sym (by-sign x))
-    (simp (signed-quot, signed-*-pos, signed-rem) (less (nonNeg x) (natAbs x)))
-  where
-    less : (s : Bool) (a : ℕ) → signed s a -ℤ signed s (a / k * k) ≡ signed s (a % k)
-    less s a =
-        ap (λ (z : ℤ). z -ℤ signed s (a / k * k)) (ap (signed s) (sym (mod-add-div' a k)) ∙ sym (signed-+ s (a % k) (a / k * k)))
-        ∙ +ℤ-negℤ-cancel (signed s (a % k)) (signed s (a / k * k))
-
 nearest-zero : (d : ℕ) → nearest 0 d ≡ 0
 nearest-zero zero = refl
 nearest-zero (suc d) = div-eq-of-lt (less d)
@@ -105,11 +94,6 @@ pub mag-quot : (x : ℤ) (k : ℕ) → mag (quotZ x (pos k)) ≤ mag x
 mag-quot x k =
     subst (λ (z : ℤ). mag (quotZ z (pos k)) ≤ mag z) (sym (by-sign x))
     (rw signed-quot (signed-mag (nonNeg x) _ _ (div-le-self (natAbs x) k)))
-
-pub mag-times : (x : ℤ) (k : ℕ) → mag (quotZ x (pos k) *ℤ pos k) ≤ mag x
-mag-times x k =
-    subst (λ (z : ℤ). mag (quotZ z (pos k) *ℤ pos k) ≤ mag z) (sym (by-sign x))
-    (simp (signed-quot, signed-*-pos) (signed-mag (nonNeg x) _ _ (div-mul-le-self (natAbs x) k)))
 
 -- ---- what a test of the sign says
 pub above-is : {x : ℤ} → pos 0 <ℤ x → x ≡ pos (natAbs x)

@@ -1,12 +1,11 @@
--- How large a number is: `natAbs` of a sum, a difference, a product, a quotient, a remainder and a rounded quotient.
+-- How large a number is: `natAbs` of a sum, a difference, a product and a rounded quotient.
 -- It turns a range of ℤ into a bound in ℕ, which `omega` reads. Assumes nothing.
 use mathlib.Core.Path.{_≡_, refl, sym, ap, _∙_}
-use Prim.Native.Nat.{ℕ, zero, suc, _+_, _-_, _*_, _/_, _%_, _<_, _≤_}
+use Prim.Native.Nat.{ℕ, zero, suc, _+_, _-_, _*_, _<_, _≤_}
 use native.Mathlib.Nat.{mul-le-mul}
 use native.Mathlib.Omega.{arith}
 use lib.Dec.{ltb, ltb→lt, nltb→le}
 use lib.IntN.{ℤ, pos, negsuc, negℤ, natAbs, subℕ, _+ℤ_, _-ℤ_, _*ℤ_, -ℤ-+ℤ-cancel, +ℤ-idl}
-use lib.Signed.{quotZ, remZ}
 use Rattle.whole.specs.Round.{nearest, roundDiv}
 use Rattle.whole.proofs.Ring.{cond-case}
 
@@ -57,17 +56,6 @@ abs-* (negsuc a) (negsuc b) = refl
 
 pub abs-*-≤ : (x y : ℤ) {a b : ℕ} → natAbs x ≤ a → natAbs y ≤ b → natAbs (x *ℤ y) ≤ a * b
 abs-*-≤ x y h k = omega (arith, abs-* x y, mul-le-mul h k)
-
--- ---- quotients
-pub abs-quot : (x y : ℤ) → natAbs (quotZ x y) ≡ natAbs x / natAbs y
-abs-quot (pos a) (pos b) = refl
-abs-quot (pos a) (negsuc b) = abs-neg (pos (a / suc b))
-abs-quot (negsuc a) (pos b) = abs-neg (pos (suc a / b))
-abs-quot (negsuc a) (negsuc b) = refl
-
-pub abs-rem : (x y : ℤ) → natAbs (remZ x y) ≡ natAbs x % natAbs y
-abs-rem (pos a) y = refl
-abs-rem (negsuc a) y = abs-neg (pos (suc a % natAbs y))
 
 pub abs-round : (x : ℤ) (d : ℕ) → natAbs (roundDiv x d) ≡ nearest (natAbs x) d
 unfolding roundDiv

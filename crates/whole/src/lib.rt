@@ -1,12 +1,10 @@
 // Whole numbers: division rounded to the nearest, the product of two scaled numbers, the distance from zero, the lesser of two,
 // and the laws that the toolchain's library lacks. No geodesy.
 ghost use mathlib.Core.Path.{_≡_};
-ghost use Prim.Native.Nat.{min};
-ghost use lib.IntN.{pos, natAbs, _*ℤ_};
+ghost use Prim.Native.Nat.{_*_, _≤_, min};
+ghost use lib.IntN.{pos, natAbs};
 ghost use lib.Signed.{_<ℤ_};
-ghost use mir.Syntax.{w64};
-ghost use mir.Val.{SFits};
-ghost use Rattle.whole.specs.Round.{roundDiv, scale};
+ghost use Rattle.whole.specs.Round.{nearest, roundDiv, scale};
 
 // What 1 is in hundred-millionths.
 pub const SCALE: i64 = 100_000_000;
@@ -29,17 +27,15 @@ pub fn rounded(n: i64) -> i64
     if n < 0 { -q } else { q }
 }
 
-// p * u / SCALE to the nearest, wherever that is an i64, though p * u may not be one.
-// Each factor is split by SCALE. All parts have the sign of p * u, so none is larger than the answer.
-pub fn scaled(p: i64, u: i64) -> i64
-    requires { ⌜ SFits w64 (roundDiv (p *ℤ u) scale) ⌝ }
-    ensures { λ r. ⌜ r ≡ roundDiv (p *ℤ u) scale ⌝ }
+// p * u / SCALE to the nearest, of sizes: u is at most 10, and p so small that a u64 holds the answer, though it may not hold
+// p * u. p is split by SCALE, and what is left of it times u is small, so that half of SCALE can be added.
+pub fn scaled(p: u64, u: u64) -> u64
+    requires { ⌜ (p ≤ 1000000000000000000) × (u ≤ 1000000000) ⌝ }
+    ensures { λ r. ⌜ r ≡ nearest (p * u) scale ⌝ }
 {
-    let q = p / SCALE;
-    let r = p - q * SCALE;
-    let a = u / SCALE;
-    let b = u - a * SCALE;
-    q * u + (r * a + rounded(r * b))
+    let q = p / SCALE as u64;
+    let r = p - q * SCALE as u64;
+    q * u + (r * u + SCALE as u64 / 2) / SCALE as u64
 }
 
 // How far x is from zero, of the least i64 too, whose negative is no i64.

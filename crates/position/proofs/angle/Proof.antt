@@ -2,18 +2,21 @@
 use borrow.Author.Needs.{needs}
 use Rattle.position.specs.Text.{angle}
 use native.Mathlib.Omega.{arith}
-use Rattle.position.proofs.Bytes.{three-number}
+use Rattle.position.proofs.Bytes.{Figures, figures, three-number}
 use Rattle.position.proofs.angle.Statement.{statement}
 use Rattle.position.proofs.angle.Tie as tie
 
+figures-of : (c : tie.Start) → Figures (c .args .t .now)
+figures-of c = figures (c .args .t .now) (c .pre .0) (c .pre .1)
+
 pair-requires : tie.Need-pair-requires
-pair-requires c κs = search needs
+pair-requires c κs = search (needs, figures-of (c .before) .degrees)
 
 mul-result : tie.Need-mul-result
 mul-result c = search needs
 
 pair-requires-2 : tie.Need-pair-requires-2
-pair-requires-2 c κs = search needs
+pair-requires-2 c κs = search (needs, figures-of (c .before .before) .minutes)
 
 mul-result-2 : tie.Need-mul-result-2
 mul-result-2 c = search needs
@@ -22,7 +25,7 @@ add-result : tie.Need-add-result
 add-result c = search needs
 
 pair-requires-3 : tie.Need-pair-requires-3
-pair-requires-3 c κs = search needs
+pair-requires-3 c κs = search (needs, figures-of (c .before .before .before) .seconds)
 
 mul-result-3 : tie.Need-mul-result-3
 mul-result-3 c = search needs
@@ -34,13 +37,13 @@ shared-slice-read-digit : tie.Need-shared-slice-read-digit
 shared-slice-read-digit c = search needs
 
 digit-requires : tie.Need-digit-requires
-digit-requires c κs = search needs
+digit-requires c κs = figures-of (c .before .before .before .before .before) .tenths
 
 mul-result-4 : tie.Need-mul-result-4
 mul-result-4 c = search needs
 
 pair-requires-4 : tie.Need-pair-requires-4
-pair-requires-4 c κs = search needs
+pair-requires-4 c κs = search (needs, figures-of (c .before .before .before .before .before .before) .thousandths)
 
 add-result-3 : tie.Need-add-result-3
 add-result-3 c = search needs
@@ -52,7 +55,7 @@ returns : tie.Need-returns
 unfolding angle
 returns c =
     let s = c .before .before .before .before .before .before .before in
-    rw (three-number 7 (s .args .t .now) (omega (arith, s .pre))) (search needs)
+    rw (three-number 7 (s .args .t .now) (omega (arith, s .pre .0))) (search needs)
 
 pub angle-spec : {M : Type 1} → statement M
 angle-spec =

@@ -1,16 +1,15 @@
 -- `position::read_latitude` meets its contract: each return answers what the tests before it leave. Assumes nothing.
-use mathlib.Core.Path.{_≡_, sym, ap, _∙_}
-use mathlib.Core.List.{List}
-use Prim.Native.Nat.{ℕ, _<_, _^_}
-use native.Mathlib.Omega.{arith}
+use mathlib.Core.Path.{_≡_, refl, sym, ap, _∙_}
+use mathlib.Core.Bool.{true}
 use borrow.Author.Needs.{needs}
-use lib.IntN.{ℤ, pos}
+use borrow.Author.Tests.{not-true, not-false}
+use lib.IntN.{ℤ}
 use mir.Syntax.{w64}
-use mir.Val.{hbits}
 use Rattle.kinds.specs.Kinds.{isLatitude, tested}
-use Rattle.whole.proofs.Words.{Holds, from-unsigned, negated, negated-asks, neg-fits}
-use Rattle.position.specs.Text.{latitude, letter, signed, read}
-use Rattle.position.proofs.Reading.{south, not-south, wrong-length, wrong-kind, wrong-range, constructed}
+use Rattle.whole.proofs.Bools.{both}
+use Rattle.whole.proofs.Words.{of}
+use Rattle.position.specs.Text.{latitude, isAngle, angle}
+use Rattle.position.proofs.Reading.{wrong-length, wrong-kind, wrong-range, constructed}
 use Rattle.position.proofs.read_latitude.Statement.{statement}
 use Rattle.position.proofs.read_latitude.Tie as tie
 
@@ -26,64 +25,41 @@ is-angle-requires c κs = search needs
 returns-2 : tie.Need-returns-2
 returns-2 c = wrong-kind latitude _ (c .before .before .before .if1 .left) (c .before .is-angle .ensures) (c .if2 .taken)
 
-angle-requires : tie.Need-angle-requires
-angle-requires c κs = search needs
+-- past the test of kinds
+right-angle : (c : tie.Else2) → isAngle latitude (c .before .before .before .before .before .args .text .now) ≡ true
+right-angle c = sym (c .before .is-angle .ensures) ∙ both _ _ (not-false _ (c .if2 .left)) .0
 
 in-sixties-requires : tie.Need-in-sixties-requires
-in-sixties-requires c κs = search needs
+in-sixties-requires c κs = search (needs, right-angle c)
 
 returns-3 : tie.Need-returns-3
 returns-3 c =
-    let b = c .before .before .before in
-    wrong-range latitude _ (b .before .before .before .if1 .left) (b .before .is-angle .ensures) (b .if2 .left) (c .before .before .angle .ensures .0) (c .before .in-sixties .ensures) (c .if3 .taken)
+    let b = c .before .before in
+    wrong-range latitude _ (b .before .before .before .if1 .left) (b .before .is-angle .ensures) (b .if2 .left) {m = angle latitude _} refl (c .before .in-sixties .ensures) (simp (not-true (c .before .in-sixties .result) (c .if3 .taken)))
 
--- past the tests
-module _ (c : tie.Else3) where
-  abbrev t : List ℕ
-  t = c .before .before .before .before .before .before .before .before .args .text .now
+angle-requires : tie.Need-angle-requires
+angle-requires c κs = search (needs, right-angle (c .before .before))
 
-  abbrev m : ℕ
-  m = c .before .before .angle .result
+returns-4 : tie.Need-returns-4
+returns-4 c =
+    let s = c .before .before in
+    let b = s .before .before in
+    wrong-range latitude _ (b .before .before .before .if1 .left) (b .before .is-angle .ensures) (b .if2 .left) (c .before .angle .ensures .0) (s .before .in-sixties .ensures) (simp (not-false (s .before .in-sixties .result) (s .if3 .left), c .if4 .taken))
 
-  small : m < 2 ^ hbits w64
-  small = omega (arith, c .before .before .angle .ensures .1)
-
-  m-is : Holds w64 m (pos m)
-  m-is = from-unsigned small
-
-  rest : tested (isLatitude (signed (letter latitude t) m)) (signed (letter latitude t) m) ≡ read latitude t
-  rest =
-      let b = c .before .before .before in
-      constructed latitude _ (b .before .before .before .if1 .left) (b .before .is-angle .ensures) (b .if2 .left) (c .before .before .angle .ensures .0) (c .before .in-sixties .ensures) (c .if3 .left)
-
-cast-new : tie.Need-cast-new
-cast-new c = search needs
-
-sub-new : tie.Need-sub-new
-sub-new c = negated-asks (m-is (c .before)) (neg-fits _ (small (c .before)))
+signed-requires : tie.Need-signed-requires
+signed-requires c κs = search needs
 
 new-requires : tie.Need-new-requires
 new-requires c κs = search needs
 
-returns-4 : tie.Need-returns-4
-returns-4 c =
-    let b = c .before .before in
-    c .new .ensures
-    ∙ ap (λ (x : ℤ). tested (isLatitude x) x) (negated (m-is b) (neg-fits _ (small b)) .reads ∙ sym (south (m b) (c .before .if4 .taken)))
-    ∙ rest b
-
-cast-new-2 : tie.Need-cast-new-2
-cast-new-2 c = search needs
-
-new-requires-2 : tie.Need-new-requires-2
-new-requires-2 c κs = search needs
-
 returns-5 : tie.Need-returns-5
 returns-5 c =
-    let b = c .before .before in
-    c .new2 .ensures
-    ∙ ap (λ (x : ℤ). tested (isLatitude x) x) (m-is b .reads ∙ sym (not-south (m b) (c .before .if4 .left)))
-    ∙ rest b
+    let r = c .before .before in
+    let s = r .before .before in
+    let b = s .before .before in
+    c .new .ensures
+    ∙ ap (λ (x : ℤ). tested (isLatitude x) x) (of {w = w64} (record { sfits = c .before .signed .ok }) .reads ∙ c .before .signed .ensures)
+    ∙ constructed latitude _ (b .before .before .before .if1 .left) (b .before .is-angle .ensures) (b .if2 .left) (r .before .angle .ensures .0) (s .before .in-sixties .ensures) (simp (not-false (s .before .in-sixties .result) (s .if3 .left), r .if4 .left))
 
 pub read-latitude-spec : {M : Type 1} → statement M
 read-latitude-spec =
@@ -93,13 +69,10 @@ read-latitude-spec =
     shared-slice-read-letter
     is-angle-requires
     returns-2
-    angle-requires
     in-sixties-requires
     returns-3
-    cast-new
-    sub-new
-    new-requires
+    angle-requires
     returns-4
-    cast-new-2
-    new-requires-2
+    signed-requires
+    new-requires
     returns-5)

@@ -1,15 +1,17 @@
 -- `position::read_longitude` meets its contract: each return answers what the tests before it leave. Assumes nothing.
 use mathlib.Core.Path.{_≡_, refl, sym, ap, _∙_}
-use mathlib.Core.Bool.{_&&_, not}
+use mathlib.Core.Bool.{true, _&&_, not}
 use mathlib.Core.List.{List}
 use Prim.Native.Nat.{ℕ, _+_, _*_, _<_, _^_}
 use native.Mathlib.Omega.{arith}
 use borrow.Author.Needs.{needs}
+use borrow.Author.Tests.{not-false}
 use lib.IntN.{ℤ}
 use lib.ListN.{length}
 use mir.Syntax.{w64}
 use mir.Val.{hbits}
 use Rattle.kinds.specs.Kinds.{isLongitude, tested}
+use Rattle.whole.proofs.Bools.{both}
 use Rattle.whole.proofs.Words.{from-unsigned}
 use Rattle.position.specs.Text.{longitude, letter, isAngle, inSixties, angle}
 use Rattle.position.proofs.Bytes.{longitude-is-angle, longitude-in-sixties, longitude-angle}
@@ -55,8 +57,12 @@ module _ (c : tie.After-is-angle) where
 returns-2 : tie.Need-returns-2
 returns-2 c = wrong-kind longitude _ (long (c .before)) (angles (c .before)) (c .if2 .taken)
 
+-- past the test of kinds
+right-kinds : (c : tie.Else2) → (c .before .before .is-digit .result ≡ true) × (c .before .is-angle .result ≡ true)
+right-kinds c = both _ _ (both _ _ (not-false _ (c .if2 .left)) .0)
+
 in-sixties-requires : tie.Need-in-sixties-requires
-in-sixties-requires c κs = search needs
+in-sixties-requires c κs = search (needs, sym (c .before .is-angle .ensures) ∙ right-kinds c .1)
 
 sixties : (c : tie.After-in-sixties) → c .in-sixties .result ≡ inSixties longitude (t (c .before .before))
 sixties c = c .in-sixties .ensures ∙ longitude-in-sixties (t (c .before .before)) (long (c .before .before))
@@ -68,13 +74,13 @@ returns-3 c =
     wrong-range longitude (t i) (long i) (angles i) (c .before .before .if2 .left) {m = m} refl (sixties (c .before)) (ap not (east (i .before .is-digit .result && i .is-angle .result) (c .before .in-sixties .result) (letter longitude (t i)) m (c .before .before .if2 .left) .0) ∙ c .if3 .taken)
 
 digit-requires : tie.Need-digit-requires
-digit-requires c κs = search needs
+digit-requires c κs = sym (c .before .before .before .before .is-digit .ensures) ∙ right-kinds (c .before .before) .0
 
 mul-new : tie.Need-mul-new
 mul-new c = search needs
 
 angle-requires : tie.Need-angle-requires
-angle-requires c κs = search needs
+angle-requires c κs = search (needs, sym (c .before .before .before .before .is-angle .ensures) ∙ right-kinds (c .before .before .before) .1)
 
 add-new : tie.Need-add-new
 add-new c = search needs
