@@ -1,8 +1,10 @@
 #!/usr/bin/env python3
-"""What the program `pages` must print, worked out from the papers with Python's fractions, regular expressions and floats.
+"""What the programs `pages` and `texts` must print, worked out from the papers with Python's fractions, regular expressions and
+floats.
 
-    python3 tests/pages.py           prints it
-    python3 tests/pages.py --check   holds it to crates/pages/stdout, to which the gate holds the program,
+    python3 tests/pages.py           prints what `pages` must
+    python3 tests/pages.py texts     prints what `texts` must
+    python3 tests/pages.py --check   holds both to their files stdout, to which the gate holds the programs,
                                      and the points that document 01 gives in figures to the same arithmetic
 """
 import re
@@ -274,12 +276,12 @@ def write(form, ms, room):
     return f'({len(text)})' + text + out[len(text):]
 
 
-def positions():
+def texts():
     lines = ['position'] + [f'{t}: ' + both(t.encode()) for t in TEXTS]
     lines += [at(t.encode(), place) for t in CHANGED for place in range(12)]
     lines += ['lengths: ' + ''.join(both(t.encode()[:n]) for n in range(21)) for t in CUT]
     lines += [f'{n} into {room}: {write(LATITUDE, n, room)} {write(LONGITUDE, n, room)}' for n in WRITTEN for room in ROOMS]
-    return lines
+    return '\n'.join(lines) + '\n'
 
 
 def kinds():
@@ -288,7 +290,7 @@ def kinds():
 
 def text():
     whole = ['whole'] + [quotients(n) for n in NUMBERS] + [' '.join(map(str, tens(u)[1:])) for u in POWERS]
-    return '\n'.join(whole + kinds() + positions() + floating() + points()) + '\n'
+    return '\n'.join(whole + kinds() + floating() + points()) + '\n'
 
 
 def beside(found, printed):
@@ -308,12 +310,12 @@ def check():
         (Fraction(factor * 1_800_000, 3_600_000), 39_269_908), (Fraction(factor, 3_600_000), 22), (Fraction(-factor, 3_600_000), -22),
         (Fraction(39_269_908 ** 2, SCALE), 15_421_257),
     ]
-    texts = [
+    positions = [
         (LATITUDE, '900000.000N', '(324000000)'), (LATITUDE, '000000.000S', '3'),
         (LATITUDE, '900000.001N', '3'), (LONGITUDE, '3600000.000E', '3'),
     ]
     wrong = [f'{x} gives {rounded(x)}, and the paper says {n}' for x, n in points if rounded(x) != n]
-    wrong += [f'{t} gives {read(form, t.encode())}, and the paper says {a}' for form, t, a in texts if read(form, t.encode()) != a]
+    wrong += [f'{t} gives {read(form, t.encode())}, and the paper says {a}' for form, t, a in positions if read(form, t.encode()) != a]
     for code, answer in zip(AREAS, CENTRES):
         if worked(*centre(code)) != answer:
             wrong.append(f'the centre of code {code} gives {worked(*centre(code))}, and the paper says {answer}')
@@ -323,15 +325,17 @@ def check():
             wrong.append(f'the test point of code {code} gives {found}, and was worked as {answer}')
         wrong += [f'the test point of code {code}: {x} is not near {y}' for x, y, near in beside(found, printed) if not near]
     wrong += [f'the slip {slip} is not seen at {p}' for slip, places in SLIPS.items() for p in places if worked(*p, slip) == worked(*p)]
-    with open('crates/pages/stdout', encoding='ascii') as f:
-        if f.read() != text():
-            wrong.append('crates/pages/stdout is not what this script works out')
-    return wrong, len(points) + len(texts) + len(CENTRES) + len(PRINTED)
+    for name, must in (('pages', text()), ('texts', texts())):
+        with open(f'crates/{name}/stdout', encoding='ascii') as f:
+            if f.read() != must:
+                wrong.append(f'crates/{name}/stdout is not what this script works out')
+    return wrong, len(points) + len(positions) + len(CENTRES) + len(PRINTED)
 
 
 if __name__ == '__main__':
     if '--check' in sys.argv:
         problems, held = check()
-        print('\n'.join(problems) or f'pages: {text().count(chr(10))} lines and {held} points of the papers agree')
+        lines = (text() + texts()).count('\n')
+        print('\n'.join(problems) or f'pages, texts: {lines} lines and {held} points of the papers agree')
         sys.exit(1 if problems else 0)
-    sys.stdout.write(text())
+    sys.stdout.write(texts() if 'texts' in sys.argv else text())

@@ -4,8 +4,10 @@ import os
 import platform
 import shutil
 import subprocess
+import sys
 
 PROVED = 'target/bin'
+ARCHIVE = 'target/staticlib/libbuckettin.a'
 
 
 def tools():
@@ -29,6 +31,17 @@ def proved(name):
     return emulator() + [os.path.join(library, 'ld-linux-x86-64.so.2'), '--library-path', library, path]
 
 
+def must_print(name, text):
+    """Shows what a program must print, or, with --check, holds its file stdout to that."""
+    if '--check' not in sys.argv:
+        sys.stdout.write(text)
+        return
+    with open(f'crates/{name}/stdout', encoding='ascii') as f:
+        if f.read() != text:
+            raise SystemExit(f'crates/{name}/stdout is not what this script works out')
+    print(f'{name}: {text.count(chr(10))} lines agree')
+
+
 def with_stack(size, command):
     """The command, with so many KiB of stack."""
     if emulator():
@@ -36,9 +49,18 @@ def with_stack(size, command):
     return ['sh', '-c', f'ulimit -s {size} && exec "$@"', 'sh'] + command
 
 
-def compiled(source, room):
-    """The command that runs a C program, compiled for x86-64 at -O2 into a folder, where its header is too."""
-    path = os.path.join(room, 'compiled')
-    words = ['x86_64-linux-gnu-gcc', '-O2', '-static', '-Wall', '-Wextra', '-Werror', '-I', room, '-o', path, source]
-    subprocess.run(words, check=True)
+def archive():
+    """The library that C programs link."""
+    if not os.path.exists(ARCHIVE):
+        raise SystemExit(f'{ARCHIVE} is not there: rt staticlib buckettin makes it')
+    return ARCHIVE
+
+
+def compiled(sources, room, headers=(), name='compiled'):
+    """The command that runs a C program, compiled for x86-64 at -O2 into a folder, where a header of its own may be too; other
+    headers are in the folders that are named. Each source is compiled by itself, and may be an object or an archive."""
+    path = os.path.join(room, name)
+    folders = [word for folder in (room, *headers) for word in ('-I', folder)]
+    words = ['x86_64-linux-gnu-gcc', '-O2', '-static', '-Wall', '-Wextra', '-Werror', *folders, '-o', path]
+    subprocess.run(words + sources, check=True)
     return emulator() + [path]

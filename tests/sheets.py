@@ -6,9 +6,9 @@ that of tests/pages.py.
     python3 tests/sheets.py --check   holds it to crates/sheets/stdout, to which the gate holds the program
 """
 import struct
-import sys
 from io import BytesIO
 
+import program
 from pages import AREAS, LARGEST, LEAST, PRINTED, asked, centre, ms
 
 # The unit sheet, for unit 7 but where another is named.
@@ -196,10 +196,4 @@ def text():
 
 
 if __name__ == '__main__':
-    if '--check' not in sys.argv:
-        sys.stdout.write(text())
-        sys.exit()
-    with open('crates/sheets/stdout', encoding='ascii') as f:
-        same = f.read() == text()
-    print(f'sheets: {text().count(chr(10))} lines agree' if same else 'crates/sheets/stdout is not what this script works out')
-    sys.exit(not same)
+    program.must_print('sheets', text())

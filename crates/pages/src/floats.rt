@@ -6,38 +6,28 @@ use kinds::AngleShift;
 use kinds::Height;
 use libc::STDOUT_FILENO;
 
-// A NaN, which alone differs from itself, has no bits that could be asked for.
-fn bits(x: f64) {
-    if x == x {
-        io::write_all(STDOUT_FILENO, b" ");
-        io::print_hex(STDOUT_FILENO, f64::to_bits(x), 16);
-    } else {
-        io::write_all(STDOUT_FILENO, b" nan");
-    }
-}
-
 fn shifted(shift: ShiftFloats) {
-    bits(shift.latitude);
-    bits(shift.longitude);
-    bits(shift.height);
+    show::float(shift.latitude);
+    show::float(shift.longitude);
+    show::float(shift.height);
 }
 
 // A point's answer, and the four calls for it.
 pub(crate) fn point(code: i64, latitude: i64, longitude: i64) {
     match floating::floating(code, latitude, longitude) {
         Answer::Shift(shift) => shifted(shift),
-        Answer::Geoid(height) => bits(height),
-        Answer::Refused(number) => super::print(b" refused ", number as i64),
+        Answer::Geoid(height) => show::float(height),
+        Answer::Refused(number) => show::number(b" refused ", number as i64),
     }
-    bits(floating::first(code, latitude, longitude));
-    bits(floating::second(code, latitude, longitude));
-    bits(floating::third(code, latitude, longitude));
-    super::print(b" ", floating::refusal(code, latitude, longitude) as i64);
+    show::float(floating::first(code, latitude, longitude));
+    show::float(floating::second(code, latitude, longitude));
+    show::float(floating::third(code, latitude, longitude));
+    show::number(b" ", floating::refusal(code, latitude, longitude) as i64);
 }
 
 // The floats of one whole number as each of the three shifts.
 fn made(n: i32) {
-    super::print_i32(b"\n", n);
+    show::four_bytes(b"\n", n);
     io::write_all(STDOUT_FILENO, b":");
     shifted(ShiftFloats::of(Shifts {
         latitude: AngleShift::of(n),

@@ -3,64 +3,42 @@
 mod floats;
 mod points;
 mod quantities;
-mod texts;
 
 use kinds::Refusal;
 use libc::STDOUT_FILENO;
 
-pub(crate) fn print(before: &[u8], n: i64) {
-    io::write_all(STDOUT_FILENO, before);
-    if n < 0 {
-        io::write_all(STDOUT_FILENO, b"-");
-    }
-    io::print_decimal(STDOUT_FILENO, whole::size(n));
-}
-
-pub(crate) fn print_i32(before: &[u8], n: i32) {
-    print(before, n as i64);
-}
-
 pub(crate) fn refused(why: Refusal) {
-    print(b" refused ", why.number() as i64);
+    show::number(b" refused ", why.number() as i64);
 }
 
 // n, n over each of eight divisors, and over the scale by the function that has it as a constant.
 fn quotients(n: i64) {
-    print(b"\n", n);
-    print(b": ", whole::round_div(n, 1));
-    print(b" ", whole::round_div(n, 2));
-    print(b" ", whole::round_div(n, 3));
-    print(b" ", whole::round_div(n, 10));
-    print(b" ", whole::round_div(n, 3_600_000));
-    print(b" ", whole::round_div(n, whole::SCALE));
-    print(b" ", whole::round_div(n, 4_611_686_018_427_387_904));
-    print(b" ", whole::round_div(n, 9_223_372_036_854_775_807));
-    print(b" ", whole::rounded(n));
+    show::number(b"\n", n);
+    show::number(b": ", whole::round_div(n, 1));
+    show::number(b" ", whole::round_div(n, 2));
+    show::number(b" ", whole::round_div(n, 3));
+    show::number(b" ", whole::round_div(n, 10));
+    show::number(b" ", whole::round_div(n, 3_600_000));
+    show::number(b" ", whole::round_div(n, whole::SCALE));
+    show::number(b" ", whole::round_div(n, 4_611_686_018_427_387_904));
+    show::number(b" ", whole::round_div(n, 9_223_372_036_854_775_807));
+    show::number(b" ", whole::rounded(n));
 }
 
-// p times u over the scale; 0 where p or u is larger than any area's.
-fn power(p: i64, u: i64) -> i64 {
-    if whole::size(p) < 1_000_000_000_000 {
-        if whole::size(u) < 1_000_000_000 {
-            let next = whole::scaled(p, u);
-            print(b" ", next);
-            return next;
-        }
-    }
-    0
-}
-
-// u, and its powers from the second to the ninth, each the one before times u.
+// u, and its powers from the second to the ninth; u alone where it is larger than 10.
 fn powers(u: i64) {
-    print(b"\n", u);
-    let p2 = power(u, u);
-    let p3 = power(p2, u);
-    let p4 = power(p3, u);
-    let p5 = power(p4, u);
-    let p6 = power(p5, u);
-    let p7 = power(p6, u);
-    let p8 = power(p7, u);
-    power(p8, u);
+    show::number(b"\n", u);
+    if whole::size(u) <= 1_000_000_000 {
+        let p = equation::powers(u);
+        show::number(b" ", p[2]);
+        show::number(b" ", p[3]);
+        show::number(b" ", p[4]);
+        show::number(b" ", p[5]);
+        show::number(b" ", p[6]);
+        show::number(b" ", p[7]);
+        show::number(b" ", p[8]);
+        show::number(b" ", p[9]);
+    }
 }
 
 fn main() {
@@ -86,7 +64,6 @@ fn main() {
     powers(251_327_412);
     powers(-251_327_412);
     quantities::all();
-    texts::all();
     floats::all();
     points::all();
     io::write_all(STDOUT_FILENO, b"\n");

@@ -6,15 +6,15 @@ use kinds::HeightAnswer;
 use libc::STDOUT_FILENO;
 
 fn shifted(shifts: Shifts) {
-    super::print_i32(b" ", shifts.latitude.units());
-    super::print_i32(b" ", shifts.longitude.units());
-    super::print_i32(b" ", shifts.height.mm());
+    show::four_bytes(b" ", shifts.latitude.units());
+    show::four_bytes(b" ", shifts.longitude.units());
+    show::four_bytes(b" ", shifts.height.mm());
 }
 
 fn answer(code: i64, latitude: i64, longitude: i64) {
     match datum::answer(code, latitude, longitude) {
         PointAnswer::Shift(shifts) => shifted(shifts),
-        PointAnswer::Geoid(height) => super::print_i32(b" ", height.mm()),
+        PointAnswer::Geoid(height) => show::four_bytes(b" ", height.mm()),
         PointAnswer::Refused(why) => super::refused(why),
     }
 }
@@ -28,15 +28,15 @@ fn shift(code: i64, latitude: i64, longitude: i64) {
 
 fn geoid(code: i64, latitude: i64, longitude: i64) {
     match datum::geoid(code, latitude, longitude) {
-        HeightAnswer::Gives(height) => super::print_i32(b" ", height.mm()),
+        HeightAnswer::Gives(height) => show::four_bytes(b" ", height.mm()),
         HeightAnswer::Refused(why) => super::refused(why),
     }
 }
 
 fn point(code: i64, latitude: i64, longitude: i64) {
-    super::print(b"\n", code);
-    super::print(b" ", latitude);
-    super::print(b" ", longitude);
+    show::number(b"\n", code);
+    show::number(b" ", latitude);
+    show::number(b" ", longitude);
     io::write_all(STDOUT_FILENO, b":");
     answer(code, latitude, longitude);
     shift(code, latitude, longitude);

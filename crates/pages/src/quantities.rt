@@ -16,48 +16,48 @@ use libc::STDOUT_FILENO;
 
 // A raw number through each constructor.
 fn made(n: i64) {
-    super::print(b"\n", n);
+    show::number(b"\n", n);
     io::write_all(STDOUT_FILENO, b":");
     match LocalLatitude::new(n) {
-        LocalLatitudeAnswer::Gives(x) => super::print_i32(b" ", x.ms()),
+        LocalLatitudeAnswer::Gives(x) => show::four_bytes(b" ", x.ms()),
         LocalLatitudeAnswer::Refused(why) => super::refused(why),
     }
     match LocalLongitude::new(n) {
-        LocalLongitudeAnswer::Gives(x) => super::print_i32(b" ", x.ms()),
+        LocalLongitudeAnswer::Gives(x) => show::four_bytes(b" ", x.ms()),
         LocalLongitudeAnswer::Refused(why) => super::refused(why),
     }
     match Wgs84Latitude::new(n) {
-        Wgs84LatitudeAnswer::Gives(x) => super::print(b" ", x.units()),
+        Wgs84LatitudeAnswer::Gives(x) => show::number(b" ", x.units()),
         Wgs84LatitudeAnswer::Refused(why) => super::refused(why),
     }
     match Wgs84Longitude::new(n) {
-        Wgs84LongitudeAnswer::Gives(x) => super::print(b" ", x.units()),
+        Wgs84LongitudeAnswer::Gives(x) => show::number(b" ", x.units()),
         Wgs84LongitudeAnswer::Refused(why) => super::refused(why),
     }
     match AngleShift::new(n) {
-        AngleShiftAnswer::Gives(x) => super::print_i32(b" ", x.units()),
+        AngleShiftAnswer::Gives(x) => show::four_bytes(b" ", x.units()),
         AngleShiftAnswer::Refused(why) => super::refused(why),
     }
     match Height::new(n) {
-        HeightAnswer::Gives(x) => super::print_i32(b" ", x.mm()),
+        HeightAnswer::Gives(x) => show::four_bytes(b" ", x.mm()),
         HeightAnswer::Refused(why) => super::refused(why),
     }
 }
 
 // A local latitude, and a longitude of the same ms, by a shift.
 fn converted(ms: i64, shift: i64) {
-    super::print(b"\n", ms);
-    super::print(b" by ", shift);
+    show::number(b"\n", ms);
+    show::number(b" by ", shift);
     io::write_all(STDOUT_FILENO, b":");
     let AngleShiftAnswer::Gives(by) = AngleShift::new(shift) else {
         return;
     };
     match LocalLatitude::new(ms) {
-        LocalLatitudeAnswer::Gives(x) => super::print(b" ", x.shifted(by).units()),
+        LocalLatitudeAnswer::Gives(x) => show::number(b" ", x.shifted(by).units()),
         LocalLatitudeAnswer::Refused(why) => super::refused(why),
     }
     match LocalLongitude::new(ms) {
-        LocalLongitudeAnswer::Gives(x) => super::print(b" ", x.shifted(by).units()),
+        LocalLongitudeAnswer::Gives(x) => show::number(b" ", x.shifted(by).units()),
         LocalLongitudeAnswer::Refused(why) => super::refused(why),
     }
 }

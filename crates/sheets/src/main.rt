@@ -46,16 +46,6 @@ fn wide(byte: u8) -> usize
     byte as usize
 }
 
-// A space, and two digits a byte.
-fn hex(bytes: &[u8]) {
-    io::write_all(STDOUT_FILENO, b" ");
-    let mut i = 0;
-    while i < bytes.len() {
-        io::print_hex(STDOUT_FILENO, wide(bytes[i]) as u64, 2);
-        i += 1;
-    }
-}
-
 // What the number that the bytes say leaves by a prime: another number where one byte is changed or two are exchanged.
 fn remainder(bytes: &[u8]) {
     let mut left = 0;
@@ -87,7 +77,7 @@ fn into(unit: i64, sheet: &[u8], room: usize, out: &mut [u8])
 {
     let answer = sheet::work(unit, sheet, &mut out[..room]);
     said(answer);
-    hex(out);
+    show::bytes(out);
 }
 
 fn named(name: &[u8]) {
@@ -233,7 +223,7 @@ fn cut(name: &[u8], sheet: [u8; 37]) {
         tried(&longer[..n], &mut out);
         n += 1;
     }
-    hex(&out);
+    show::bytes(&out);
 }
 
 fn cuts() {
@@ -338,19 +328,19 @@ fn counts() {
     let long = filled();
     let mut none = [b'#'; 21];
     counted(long, 0, &mut none);
-    hex(&none);
+    show::bytes(&none);
     let mut one = [b'#'; 21];
     counted(long, 1, &mut one);
-    hex(&one);
+    show::bytes(&one);
     let mut fewer = [b'#'; 6508];
     counted(long, 499, &mut fewer);
     remainder(&fewer);
     let mut most = [b'#'; 6508];
     counted(long, 500, &mut most);
-    hex(&most);
+    show::bytes(&most);
     let mut over = [b'#'; 21];
     counted(long, 501, &mut over);
-    hex(&over);
+    show::bytes(&over);
 }
 
 fn main() {

@@ -49,11 +49,11 @@ loop-less c = search needs
 loop-again : tie.Need-loop-again Inv-loop μ-loop
 loop-again c = search needs
 
-slice-aggregate-hex : tie.Need-slice-aggregate-hex Inv-loop μ-loop
-slice-aggregate-hex c = search needs
+slice-aggregate-bytes : tie.Need-slice-aggregate-bytes Inv-loop μ-loop
+slice-aggregate-bytes c = search needs
 
-hex-requires : tie.Need-hex-requires Inv-loop μ-loop
-hex-requires c κs = search needs
+bytes-requires : tie.Need-bytes-requires Inv-loop μ-loop
+bytes-requires c κs = search needs
 
 returns : tie.Need-returns Inv-loop μ-loop
 returns c = search needs
@@ -76,6 +76,6 @@ cut-spec =
     add-n
     loop-less
     loop-again
-    slice-aggregate-hex
-    hex-requires
+    slice-aggregate-bytes
+    bytes-requires
     returns)

@@ -17,8 +17,8 @@ work-requires c κs = search needs
 said-requires : tie.Need-said-requires
 said-requires c κs = search needs
 
-hex-requires : tie.Need-hex-requires
-hex-requires c κs = search needs
+bytes-requires : tie.Need-bytes-requires
+bytes-requires c κs = search needs
 
 same-length : tie.Need-same-length
 same-length c = search needs
@@ -34,6 +34,6 @@ into-spec =
     slice-aggregate-work
     work-requires
     said-requires
-    hex-requires
+    bytes-requires
     same-length
     returns)

@@ -1,11 +1,11 @@
--- `pages::texts::bytes_at` is safe and ends. Assumes nothing.
+-- `texts::bytes_at` is safe and ends. Assumes nothing.
 use mathlib.Core.Path.{_≡_}
 use Prim.Native.Nat.{_≤_, _-_}
 use native.Mathlib.Omega.{arith}
 use lib.ListN.{length, length-set}
 use borrow.Author.Needs.{needs}
-use Rattle.pages.proofs.texts.bytes_at.Statement.{statement}
-use Rattle.pages.proofs.texts.bytes_at.Tie as tie
+use Rattle.texts.proofs.bytes_at.Statement.{statement}
+use Rattle.texts.proofs.bytes_at.Tie as tie
 
 abbrev Inv-loop : tie.InvT-loop
 Inv-loop text₀ place kept b₀ text b = (length text ≡ 12) × (b ≤ 256)
@@ -13,14 +13,14 @@ Inv-loop text₀ place kept b₀ text b = (length text ≡ 12) × (b ≤ 256)
 abbrev μ-loop : tie.MeasureT-loop
 μ-loop text₀ place kept b₀ text b = 256 - b
 
-slice-aggregate-print : tie.Need-slice-aggregate-print Inv-loop μ-loop
-slice-aggregate-print c = search needs
+slice-aggregate-number : tie.Need-slice-aggregate-number Inv-loop μ-loop
+slice-aggregate-number c = search needs
 
-cast-print : tie.Need-cast-print Inv-loop μ-loop
-cast-print c = search needs
+cast-number : tie.Need-cast-number Inv-loop μ-loop
+cast-number c = search needs
 
-print-requires : tie.Need-print-requires Inv-loop μ-loop
-print-requires c κs = search needs
+number-requires : tie.Need-number-requires Inv-loop μ-loop
+number-requires c κs = search needs
 
 slice-aggregate-write-all : tie.Need-slice-aggregate-write-all Inv-loop μ-loop
 slice-aggregate-write-all c = search needs
@@ -80,9 +80,9 @@ bytes-at-spec =
     (tie.spec
     Inv-loop
     μ-loop
-    slice-aggregate-print
-    cast-print
-    print-requires
+    slice-aggregate-number
+    cast-number
+    number-requires
     slice-aggregate-write-all
     write-all-requires
     slice-read-kept

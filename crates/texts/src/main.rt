@@ -1,4 +1,5 @@
-// Positions as text: a table of texts; every byte at every place, every length to 20; and numbers written into buffers.
+// A test program, positions as text: a table of texts; every byte at every place, every length to 20; and numbers written into
+// buffers. tests/pages.py works out what it must print from the papers.
 use kinds::LocalLatitudeAnswer;
 use kinds::LocalLongitudeAnswer;
 use kinds::Refusal;
@@ -10,12 +11,12 @@ ghost use lib.ListN.{length};
 
 // A number is printed in brackets, a refusal as its digit alone.
 fn number(n: i32) {
-    super::print_i32(b"(", n);
+    show::four_bytes(b"(", n);
     io::write_all(STDOUT_FILENO, b")");
 }
 
 fn digit(why: Refusal) {
-    super::print(b"", why.number() as i64);
+    show::number(b"", why.number() as i64);
 }
 
 fn latitude(text: &[u8]) {
@@ -46,7 +47,7 @@ fn bytes_at(text: &mut [u8], place: usize)
     requires { ⌜ length (now text) ≡ 12 ⌝ }
     requires { ⌜ place < 12 ⌝ }
 {
-    super::print(b"\nbyte ", place as i64);
+    show::number(b"\nbyte ", place as i64);
     io::write_all(STDOUT_FILENO, b": ");
     let kept = text[place];
     let mut b: u32 = 0;
@@ -102,8 +103,8 @@ fn longitude_into(ms: i64, room: usize, out: &mut [u8])
 fn into(ms: i64, room: usize)
     requires { ⌜ room ≤ 14 ⌝ }
 {
-    super::print(b"\n", ms);
-    super::print(b" into ", room as i64);
+    show::number(b"\n", ms);
+    show::number(b" into ", room as i64);
     io::write_all(STDOUT_FILENO, b": ");
     latitude_into(ms, room, &mut [b'#'; 14]);
     io::write_all(STDOUT_FILENO, b" ");
@@ -192,8 +193,8 @@ fn numbers() {
     write(9_223_372_036_854_775_807);
 }
 
-pub(crate) fn all() {
-    io::write_all(STDOUT_FILENO, b"\nposition");
+fn main() {
+    io::write_all(STDOUT_FILENO, b"position");
     ranges();
     forms();
     bytes(*b"0344323.316N");
@@ -201,4 +202,5 @@ pub(crate) fn all() {
     lengths(b"344323.316N344323.31");
     lengths(b"0322806.026E0322806.");
     numbers();
+    io::write_all(STDOUT_FILENO, b"\n");
 }

@@ -1,11 +1,11 @@
--- `pages::floats::bits` is safe and ends: what equals itself is no NaN, and has bits. Assumes nothing.
+-- `show::float` is safe and ends: what equals itself is no NaN, and has bits. Assumes nothing.
 use mathlib.Core.Path.{_≡_}
 use mathlib.Core.Bool.{true, not, false≢true}
 use lib.Dec.{T}
 use lib.Ieee.{Float, nan, inf, fin, eq, isNan}
 use borrow.Author.Needs.{needs}
-use Rattle.pages.proofs.floats.bits.Statement.{statement}
-use Rattle.pages.proofs.floats.bits.Tie as tie
+use Rattle.show.proofs.float.Statement.{statement}
+use Rattle.show.proofs.float.Tie as tie
 
 a-number : (x : Float) → eq x x ≡ true → T (not (isNan x))
 unfolding eq isNan
@@ -37,8 +37,8 @@ returns c = search needs
 returns-2 : tie.Need-returns-2
 returns-2 c = search needs
 
-pub bits-spec : {M : Type 1} → statement M
-bits-spec =
+pub float-spec : {M : Type 1} → statement M
+float-spec =
     tie.close
     (tie.spec
     slice-aggregate-write-all

@@ -1,9 +1,9 @@
--- `pages::texts::longitude_into` is safe and ends. Assumes nothing.
+-- `texts::longitude_into` is safe and ends. Assumes nothing.
 use mathlib.Core.Path.{sym}
 use lib.Seq.{length-take-le}
 use borrow.Author.Needs.{needs}
-use Rattle.pages.proofs.texts.longitude_into.Statement.{statement}
-use Rattle.pages.proofs.texts.longitude_into.Tie as tie
+use Rattle.texts.proofs.longitude_into.Statement.{statement}
+use Rattle.texts.proofs.longitude_into.Tie as tie
 
 slice-relend-prefix-write-longitude : tie.Need-slice-relend-prefix-write-longitude
 slice-relend-prefix-write-longitude c = search needs

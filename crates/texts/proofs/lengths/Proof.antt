@@ -1,11 +1,11 @@
--- `pages::texts::lengths` is safe and ends. Assumes nothing.
+-- `texts::lengths` is safe and ends. Assumes nothing.
 use Prim.Native.Nat.{_≤_, _-_}
 use mathlib.Core.Path.{sym}
 use native.Mathlib.Omega.{arith}
 use lib.Seq.{length-take-le}
 use borrow.Author.Needs.{needs}
-use Rattle.pages.proofs.texts.lengths.Statement.{statement}
-use Rattle.pages.proofs.texts.lengths.Tie as tie
+use Rattle.texts.proofs.lengths.Statement.{statement}
+use Rattle.texts.proofs.lengths.Tie as tie
 
 abbrev Inv-loop : tie.InvT-loop
 Inv-loop text n₀ n = n ≤ 21

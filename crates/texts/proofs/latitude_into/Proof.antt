@@ -1,9 +1,9 @@
--- `pages::texts::latitude_into` is safe and ends. Assumes nothing.
+-- `texts::latitude_into` is safe and ends. Assumes nothing.
 use mathlib.Core.Path.{sym}
 use lib.Seq.{length-take-le}
 use borrow.Author.Needs.{needs}
-use Rattle.pages.proofs.texts.latitude_into.Statement.{statement}
-use Rattle.pages.proofs.texts.latitude_into.Tie as tie
+use Rattle.texts.proofs.latitude_into.Statement.{statement}
+use Rattle.texts.proofs.latitude_into.Tie as tie
 
 slice-relend-prefix-write-latitude : tie.Need-slice-relend-prefix-write-latitude
 slice-relend-prefix-write-latitude c = search needs
