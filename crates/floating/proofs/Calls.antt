@@ -7,11 +7,8 @@ use lib.Ieee.{Float, binary64, div, ofBits, ofInt, round}
 use mir.Syntax.{w32, w64}
 use mir.Val.{SFits, toZ, ofZ}
 use Rattle.whole.proofs.Words.{of}
-use Rattle.kinds.specs.Answer.{refusalOf}
-use Rattle.datum.specs.Point.{answerOf, valuesOf}
-use Rattle.datum.specs.Cases.{pointAnswer}
-use Rattle.datum.specs.declared.PointAnswer.{PointAnswer}
-use Rattle.floating.specs.Floats.{_dividedBy_, perSecond, perMetre, answerInFloats, floatingOf, zero}
+use Rattle.datum.specs.Point.{valuesOf}
+use Rattle.floating.specs.Floats.{_dividedBy_, perSecond, perMetre, floatingOf, zero}
 use Rattle.floating.specs.Cases.{floatAnswer}
 use Rattle.floating.specs.declared.Answer.{Answer}
 
@@ -35,20 +32,14 @@ once-divided units n m e fits same = λ i. div binary64 (ofInt binary64 ((of fit
 
 -- ---- a call on a point, of its three numbers as they came
 module _ {code latitude longitude : ℤ} (c : SFits w64 code) (b : SFits w64 latitude) (l : SFits w64 longitude) where
-  came : {A : Type 0} (call : ℤ → ℤ → ℤ → A) → call (toZ w64 (ofZ w64 code)) (toZ w64 (ofZ w64 latitude)) (toZ w64 (ofZ w64 longitude)) ≡ call code latitude longitude
+  pub came : {A : Type 0} (call : ℤ → ℤ → ℤ → A) → call (toZ w64 (ofZ w64 code)) (toZ w64 (ofZ w64 latitude)) (toZ w64 (ofZ w64 longitude)) ≡ call code latitude longitude
   came call = λ i. call (of c .reads i) (of b .reads i) (of l .reads i)
 
-  -- the floats of the case that was found
-  pub floats-of : {given case : PointAnswer}
-      → pointAnswer given ≡ answerOf (toZ w64 (ofZ w64 code)) (toZ w64 (ofZ w64 latitude)) (toZ w64 (ofZ w64 longitude))
-      → given ≡ case → answerInFloats (pointAnswer case) ≡ floatingOf code latitude longitude
-  floats-of e same = ap answerInFloats (ap pointAnswer (sym same) ∙ e ∙ came answerOf)
-
-  -- the number of the case that was found
-  pub number-of : {given case : Answer}
-      → floatAnswer given ≡ floatingOf (toZ w64 (ofZ w64 code)) (toZ w64 (ofZ w64 latitude)) (toZ w64 (ofZ w64 longitude))
-      → given ≡ case → refusalOf (floatAnswer case) ≡ refusalOf (floatingOf code latitude longitude)
-  number-of e same = ap refusalOf (ap floatAnswer (sym same) ∙ e ∙ came floatingOf)
+  -- what is made of the case that was found
+  pub found : {E A B : Type 0} (says : E → A) (made : A → B) (call : ℤ → ℤ → ℤ → A) {given case : E}
+      → says given ≡ call (toZ w64 (ofZ w64 code)) (toZ w64 (ofZ w64 latitude)) (toZ w64 (ofZ w64 longitude))
+      → given ≡ case → made (says case) ≡ made (call code latitude longitude)
+  found says made call e same = ap made (ap says (sym same) ∙ e ∙ came call)
 
   -- the three values
   pub values-of : (given : Answer) {values : List Float}

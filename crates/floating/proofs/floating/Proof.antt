@@ -2,7 +2,10 @@
 use mathlib.Core.Path.{ap, _∙_}
 use Rattle.kinds.specs.Answer.{gives, refused}
 use Rattle.datum.specs.Page.{geoid}
-use Rattle.floating.proofs.Calls.{floats-of}
+use Rattle.datum.specs.Point.{answerOf}
+use Rattle.datum.specs.Cases.{pointAnswer}
+use Rattle.floating.specs.Floats.{answerInFloats}
+use Rattle.floating.proofs.Calls.{found}
 use borrow.Author.Needs.{needs}
 use Rattle.floating.proofs.floating.Statement.{statement}
 use Rattle.floating.proofs.floating.Tie as tie
@@ -33,21 +36,21 @@ returns c =
     let call = c .before .before .before .before in
     let s = call .before in
     ap gives (c .of .ensures)
-    ∙ floats-of (s .fits .code) (s .fits .latitude) (s .fits .longitude) (call .answer .ensures) (c .before .before .shifts .given .1)
+    ∙ found (s .fits .code) (s .fits .latitude) (s .fits .longitude) pointAnswer answerInFloats answerOf (call .answer .ensures) (c .before .before .shifts .given .1)
 
 returns-2 : tie.Need-returns-2
 returns-2 c =
     let call = c .before .before .before .before in
     let s = call .before in
     ap (λ x. gives (geoid x)) (c .metres .ensures)
-    ∙ floats-of (s .fits .code) (s .fits .latitude) (s .fits .longitude) (call .answer .ensures) (c .before .before .height .given .1)
+    ∙ found (s .fits .code) (s .fits .latitude) (s .fits .longitude) pointAnswer answerInFloats answerOf (call .answer .ensures) (c .before .before .height .given .1)
 
 returns-3 : tie.Need-returns-3
 returns-3 c =
     let call = c .before .before .before .before in
     let s = call .before in
     ap refused (c .number .ensures)
-    ∙ floats-of (s .fits .code) (s .fits .latitude) (s .fits .longitude) (call .answer .ensures) (c .before .before .why .given .1)
+    ∙ found (s .fits .code) (s .fits .latitude) (s .fits .longitude) pointAnswer answerInFloats answerOf (call .answer .ensures) (c .before .before .why .given .1)
 
 pub floating-spec : {M : Type 1} → statement M
 floating-spec =

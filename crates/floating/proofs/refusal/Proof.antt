@@ -1,5 +1,8 @@
 -- `floating::refusal` meets its contract. Assumes nothing.
-use Rattle.floating.proofs.Calls.{number-of}
+use Rattle.kinds.specs.Answer.{refusalOf}
+use Rattle.floating.specs.Floats.{floatingOf}
+use Rattle.floating.specs.Cases.{floatAnswer}
+use Rattle.floating.proofs.Calls.{found}
 use borrow.Author.Needs.{needs}
 use Rattle.floating.proofs.refusal.Statement.{statement}
 use Rattle.floating.proofs.refusal.Tie as tie
@@ -20,19 +23,19 @@ returns : tie.Need-returns
 returns c =
     let call = c .before .before in
     let s = call .before in
-    number-of (s .fits .code) (s .fits .latitude) (s .fits .longitude) (call .floating .ensures) (c .enum-told .given .1)
+    found (s .fits .code) (s .fits .latitude) (s .fits .longitude) floatAnswer refusalOf floatingOf (call .floating .ensures) (c .enum-told .given .1)
 
 returns-2 : tie.Need-returns-2
 returns-2 c =
     let call = c .before .before in
     let s = call .before in
-    number-of (s .fits .code) (s .fits .latitude) (s .fits .longitude) (call .floating .ensures) (c .enum-told2 .given .1)
+    found (s .fits .code) (s .fits .latitude) (s .fits .longitude) floatAnswer refusalOf floatingOf (call .floating .ensures) (c .enum-told2 .given .1)
 
 returns-3 : tie.Need-returns-3
 returns-3 c =
     let call = c .before .before .before in
     let s = call .before in
-    number-of (s .fits .code) (s .fits .latitude) (s .fits .longitude) (call .floating .ensures) (c .before .number .given .1)
+    found (s .fits .code) (s .fits .latitude) (s .fits .longitude) floatAnswer refusalOf floatingOf (call .floating .ensures) (c .before .number .given .1)
 
 pub refusal-spec : {M : Type 1} → statement M
 refusal-spec =

@@ -1,0 +1,61 @@
+/* The layout of what C gets, and the examples of include/buckettin.h, which tests/header.py takes out of its comments into
+   examples.h: a CALL of each that gives a struct, a NUMBER of each that gives a number, and TEXT or BYTES of what a buffer starts with. */
+#include "buckettin.h"
+
+#include <stdio.h>
+#include <string.h>
+
+#define AT(type, field, offset) _Static_assert(offsetof(type, field) == (offset), #type "." #field)
+#define SIZE(type, size) _Static_assert(sizeof(type) == (size), #type)
+
+SIZE(buckettin_shift_t, 16);
+AT(buckettin_shift_t, refusal, 0);
+AT(buckettin_shift_t, dlat, 4);
+AT(buckettin_shift_t, dlon, 8);
+AT(buckettin_shift_t, dh, 12);
+
+SIZE(buckettin_geoid_t, 8);
+AT(buckettin_geoid_t, refusal, 0);
+AT(buckettin_geoid_t, n, 4);
+
+SIZE(buckettin_read_t, 8);
+AT(buckettin_read_t, refusal, 0);
+AT(buckettin_read_t, ms, 4);
+
+SIZE(buckettin_written_t, 8);
+AT(buckettin_written_t, refusal, 0);
+AT(buckettin_written_t, written, 4);
+
+static int count, wrong;
+
+static void seen(int right, const char *what)
+{
+    count++;
+    if (right) return;
+    wrong++;
+    printf("not so: %s\n", what);
+}
+
+#define CALL(type, call, ...) \
+    do { \
+        const type must = __VA_ARGS__, found = call; \
+        seen(memcmp(&found, &must, sizeof must) == 0, #call); \
+    } while (0)
+#define NUMBER(call, must) seen((call) == (must), #call)
+#define BYTES(buffer, ...) \
+    do { \
+        const uint8_t must[] = __VA_ARGS__; \
+        seen(memcmp(buffer, must, sizeof must) == 0, #buffer " starts with " #__VA_ARGS__); \
+    } while (0)
+#define TEXT(buffer, must) seen(memcmp(buffer, must, sizeof must - 1) == 0, #buffer " starts with " #must)
+
+int main(void)
+{
+    static const uint8_t sheet[] = {0,0,0,7, 0, 0,0};
+    uint8_t out[36], result[6];
+    memset(out, '#', sizeof out);
+    memset(result, '#', sizeof result);
+#include "examples.h"
+    printf("%d of %d are so\n", count - wrong, count);
+    return wrong != 0;
+}

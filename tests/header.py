@@ -1,0 +1,159 @@
+#!/usr/bin/env python3
+"""include/buckettin.h beside what it declares: python3 tests/header.py, where rt staticlib buckettin has been run.
+
+No proof sees the header. Its declarations are compared with the exported functions and their structs in
+crates/buckettin/src/lib.rt (names, order, parameters, widths) and with the symbols of the archive; its table of areas with
+tests/pages.py, and its orders of refusals with document 01's; and a program in C that is built from it, tests/header.c, asserts
+the layout of each struct and makes each call that a comment of the header has as an example, as it stands there.
+"""
+import re
+import subprocess
+import sys
+import tempfile
+
+import pages
+import program
+
+HEADER = 'include/buckettin.h'
+SOURCE = 'crates/buckettin/src/lib.rt'
+WIDTHS = {'i64': 'int64_t', 'i32': 'int32_t', 'u32': 'uint32_t', 'f64': 'double'}
+BYTES = {'&[u8]': ('const uint8_t *', 'length'), '&mut[u8]': ('uint8_t *', 'room')}
+
+
+def content(path):
+    with open(path, encoding='utf-8') as f:
+        return f.read()
+
+
+def in_c(name):
+    """What C calls a struct of the source."""
+    return f'buckettin_{name.lower()}_t'
+
+
+def parameters(given):
+    """Those of a function of the source, as C has them: a slice is a pointer and a count of bytes."""
+    found = []
+    for name, kind in re.findall(r'(\w+): ([^,]+)', given):
+        if kind in WIDTHS:
+            found.append(f'{WIDTHS[kind]} {name}')
+        else:
+            pointer, count = BYTES[kind.replace(' ', '')]
+            found += [pointer + name, f'size_t {count}']
+    return ', '.join(found)
+
+
+def exported(source):
+    """The declarations that the source asks for."""
+    functions = re.findall(r'#\[no_mangle\]\npub extern "C" fn (\w+)\(([^)]*)\) -> (\w+)', source)
+    return [f'{WIDTHS.get(answer) or in_c(answer)} {name}({parameters(given)});' for name, given, answer in functions]
+
+
+def structs(source):
+    """The fields of each struct that C gets, as the source has them."""
+    found = re.findall(r'#\[repr\(C\)\]\npub struct (\w+) \{\n(.*?)\n\}', source, re.S)
+    rows = {in_c(name): re.findall(r'pub (\w+): (\w+)', fields) for name, fields in found}
+    return {name: [(WIDTHS[kind], field) for field, kind in fields] for name, fields in rows.items()}
+
+
+def bare(header):
+    return re.sub(r'/\*.*?\*/', '', header, flags=re.S)
+
+
+def declared(header):
+    return [re.sub(r' +', ' ', line) for line in re.findall(r'^\w+ +buckettin_\w+\(.*\);', bare(header), re.M)]
+
+
+def typedefs(header):
+    found = {}
+    for fields, name in re.findall(r'typedef struct \{(.*?)\} *(\w+);', bare(header)):
+        rows = [row.split(None, 1) for row in fields.split(';') if row.strip()]
+        found[name] = [(kind, field.strip()) for kind, names in rows for field in names.split(',')]
+    return found
+
+
+def areas(header):
+    """The ends of each area, in ms, as the table of the header has them."""
+    rows = re.findall(r"^ +(\d) +\w.*?((?: +\d+°\d\d'(?: to)?){4})$", header, re.M)
+    return {int(code): tuple(pages.ms(int(d), int(m)) for d, m in re.findall(r"(\d+)°(\d\d)'", ends)) for code, ends in rows}
+
+
+def symbols():
+    """What the archive gives and what it takes, of its symbols."""
+    listing = subprocess.run(['x86_64-linux-gnu-nm', program.archive()], capture_output=True, text=True, check=True).stdout
+    return ({name for kind, name in re.findall(r' ([TU]) (\S+)$', listing, re.M) if kind == given} for given in 'TU')
+
+
+def not_understood(header, names):
+    """What the expressions above would pass over: another form of declaration, typedef or row."""
+    found = set(re.findall(r'\bbuckettin_\w+(?=\()', bare(header)))
+    wrong = [] if found == names else [f'declarations not understood: {sorted(found ^ names)}']
+    wrong += [] if bare(header).count('typedef') == len(typedefs(header)) else ['a typedef is not understood']
+    rows = len(re.findall(r'^ +\d+ +\w.*°', header, re.M))
+    return wrong + ([] if rows == len(areas(header)) else ['a row of the areas is not understood'])
+
+
+# Document 01's orders. That of a sheet is told in words, which tests/hostile.py alone holds to what it does.
+ORDERS = {
+    'shift': '4, 5, 3, 6', 'geoid': '4, 5, 3, 6', 'refusal': '4, 3, 6', 'read_latitude': '1, 2, 3', 'read_longitude': '1, 2, 3',
+    'write_latitude': '3, 7', 'write_longitude': '3, 7', 'line': '1, 2, 3, 4, 6, 7',
+}
+
+
+def orders(header):
+    """The order of refusals that the comment before each declaration tells."""
+    found = {}
+    for comment, name in re.findall(r'/\*((?:(?!\*/).)*)\*/\n\w+ +buckettin_(\w+)\(', header, re.S):
+        told = re.search(r'in this order: ([\d, ]*\d)', ' '.join(comment.split()))
+        if told:
+            found[name] = told[1]
+    return found
+
+
+EXAMPLE = re.compile(
+    r'(buckettin_(\w+)\((?:[^()]|\([^()]*\))*\)) is (\{[^}]*\}|-?[0-9.]+[0-9]|[0-9])'
+    r'(?:, and (out|result) starts with ("[^"]*"|\{[^}]*\}))?')
+
+
+def examples(header):
+    """The calls in the header's comments, by the function, as lines of tests/header.c."""
+    answers = {re.search(r' (buckettin_(\w+))\(', line)[2]: line.split()[0] for line in declared(header)}
+    words = ' '.join(' '.join(re.findall(r'/\*(.*?)\*/', header, re.S)).split())
+    lines, called = [], set()
+    for call, name, answer, buffer, start in EXAMPLE.findall(words):
+        called.add(f'buckettin_{name}')
+        lines.append(f'CALL({answers[name]}, {call}, {answer});' if answer[0] == '{' else f'NUMBER({call}, {answer});')
+        if buffer:
+            lines.append(f'{"TEXT" if start[0] == chr(34) else "BYTES"}({buffer}, {start});')
+    if words.count(' starts with ') != sum(line.startswith(('TEXT', 'BYTES')) for line in lines):
+        raise SystemExit('what a buffer starts with is not understood')
+    return lines, called
+
+
+def run(lines):
+    with tempfile.TemporaryDirectory() as room:
+        with open(f'{room}/examples.h', 'w', encoding='ascii') as f:
+            f.write('\n'.join(lines) + '\n')
+        command = program.compiled(['-std=c11', '-Wpedantic', 'tests/header.c', program.archive()], room, ['include'])
+        return subprocess.run(command).returncode
+
+
+def main():
+    header, source = content(HEADER), content(SOURCE)
+    wrong = [f'the source asks for {line}' for line in exported(source) if line not in declared(header)]
+    wrong += [f'no export is {line}' for line in declared(header) if line not in exported(source)]
+    wrong += [] if structs(source) == typedefs(header) else [f'structs differ: {structs(source)} and {typedefs(header)}']
+    wrong += [] if areas(header) == pages.AREAS else [f'areas differ: {areas(header)} and {pages.AREAS}']
+    names = {re.search(r'buckettin_\w+(?=\()', line)[0] for line in declared(header)}
+    given, taken = symbols()
+    wrong += [] if given == names else [f'the archive gives {sorted(given ^ names)} or the header does, but not both']
+    wrong += [] if taken == {'memcpy'} else [f'the archive takes {sorted(taken)}']
+    wrong += not_understood(header, names)
+    wrong += [] if orders(header) == ORDERS else [f'orders differ: {orders(header)} and {ORDERS}']
+    lines, called = examples(header)
+    wrong += [f'{name} has no example' for name in sorted(names - called)]
+    print('\n'.join(wrong) or f'the header: {len(names)} functions and {len(structs(source))} structs as in the source')
+    sys.exit(1 if run(lines) or wrong else 0)
+
+
+if __name__ == '__main__':
+    main()
