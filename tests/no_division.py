@@ -1,25 +1,57 @@
 #!/usr/bin/env python3
-"""The working rule, compiled, divides by constants and holds no division instruction: reads the machine code of
-target/obj/pages.o.
+"""The compiled code divides whole numbers by constants and holds no instruction that divides them: reads the machine code of the
+working rule in target/obj/pages.o, and of every function in target/staticlib/libbuckettin.a, which C calls.
 
 That a division by a literal becomes a multiplication is the compiler's doing, and nothing proves it: so it is looked at.
+Floats are divided, once for each value, as document 01 has it.
 """
 import re
 import subprocess
 import sys
 
-# Functions into which the compiler puts whole::round_div, rounded and scaled, all with literal divisors, and equation::equation.
-HOT = ['pages::quotients', 'pages::powers', 'equation::powers', 'datum::ShiftDatum::at', 'datum::GeoidDatum::at']
+import program
 
-listing = subprocess.run(['x86_64-linux-gnu-objdump', '-d', '--no-show-raw-insn', 'target/obj/pages.o'], capture_output=True, text=True, check=True).stdout
-bodies = {m[1]: m[2] for m in re.finditer(r'^[0-9a-f]+ <(.+)>:\n((?:.+\n)*)', listing, re.M)}
-wrong = []
-for name in HOT:
-    if name not in bodies:
-        wrong.append(f'{name} is not in target/obj/pages.o: name the function that holds the divisions now')
-    elif not re.search(r'\ti?mul', bodies[name]):
-        wrong.append(f'{name} multiplies nothing, so it does not divide: name the function that does')
-    else:
-        wrong += [f'{name}: {line.strip()}' for line in bodies[name].split('\n') if re.search(r'\ti?div', line)]
-print('\n'.join(wrong) or f'no division: none in {", ".join(HOT)}')
-sys.exit(1 if wrong else 0)
+PAGES = 'target/obj/pages.o'
+# Functions into which the compiler puts whole::round_div, rounded and scaled, all with literal divisors, and equation::equation.
+HOT = ['pages::quotients', 'equation::powers', 'datum::ShiftDatum::at', 'datum::GeoidDatum::at']
+
+
+def functions(path):
+    """The machine code of each function, by its name."""
+    words = ['x86_64-linux-gnu-objdump', '-d', '--no-show-raw-insn', path]
+    listing = subprocess.run(words, capture_output=True, text=True, check=True).stdout
+    return {m[1]: m[2] for m in re.finditer(r'^[0-9a-f]+ <(.+)>:\n((?:.+\n)*)', listing, re.M)}
+
+
+def called():
+    """What the header declares."""
+    with open('include/buckettin.h', encoding='utf-8') as f:
+        return re.findall(r'^\w+ +(buckettin_\w+)\(', f.read(), re.M)
+
+
+def missing(names, found, path):
+    return [f'{name} is not in {path}: name the function that stands for it now' for name in names if name not in found]
+
+
+def divisions(name, body):
+    return [f'{name}: {line.strip()}' for line in body.split('\n') if re.search(r'\ti?div[bwlq]?\s', line)]
+
+
+def idle(name, body):
+    return [] if re.search(r'\ti?mul', body) else [f'{name} multiplies nothing, so it does not divide: name the function that does']
+
+
+def main():
+    pages, archive = functions(PAGES), functions(program.archive())
+    wrong = missing(HOT, pages, PAGES) + missing(called(), archive, program.ARCHIVE)
+    for name in HOT:
+        if name in pages:
+            wrong += idle(name, pages[name]) + divisions(name, pages[name])
+    for name, body in archive.items():
+        wrong += divisions(name, body)
+    print('\n'.join(wrong) or f'no division: none in {", ".join(HOT)}, nor in the {len(archive)} functions of {program.ARCHIVE}')
+    sys.exit(1 if wrong else 0)
+
+
+if __name__ == '__main__':
+    main()

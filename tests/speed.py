@@ -6,8 +6,7 @@ Both programs are x86-64 and read the same file of 1,000,000 lines that are answ
 spread over each area. They run in turn, once unmeasured and then as often as RUNS says. Prints how many lines each answers in
 a second, and how many times as long `lines` takes, by the clock and by the processor's time: medians of the runs. No time is
 held to a limit: it ends with an error where the two outputs differ, on these lines or on those that tests/lines.py makes for
-the program, or where a program cannot be built or run. tests/speed.c is the program in C, and its tables are written here from
-document 000's text, with the areas of tests/pages.py.
+the program, or where a program cannot be built or run. tests/speed.c is the program in C, with tests/bench/plain.c.
 """
 import os
 import random
@@ -16,29 +15,14 @@ import tempfile
 import time
 from statistics import median
 
-import document_000
 import pages
+import plain
 import program
 from lines import at, given
 
 LINES = 1_000_000
 RUNS = 7
 SEED = 1989
-
-
-def tables():
-    """The header that tests/speed.c takes: terms, centres, K and areas."""
-    out, datums = [], []
-    for code, (south, north, west, east) in pages.AREAS.items():
-        latitude, longitude, factor = document_000.frame(code)
-        equations = []
-        for name, _, terms in document_000.equations(code):
-            rows = ', '.join(f'{{{coefficient}, {u}, {v}}}' for _, coefficient, u, v in terms)
-            out.append(f'static const struct term {name}_{code}[] = {{{rows}}};')
-            equations.append(f'{{{name}_{code}, {len(terms)}}}')
-        numbers = [pages.ms(latitude), pages.ms(longitude), factor, south, north, west, east]
-        datums.append(f'    {{{", ".join(map(str, numbers))}, {{{", ".join(equations)}}}, {len(equations)}}},')
-    return '\n'.join(out + ['static const struct datum DATUMS[] = {'] + datums + ['};']) + '\n'
 
 
 def places():
@@ -74,11 +58,9 @@ def main():
         def file(name):
             return os.path.join(room, name)
 
-        with open(file('tables.h'), 'w', encoding='ascii') as f:
-            f.write(tables())
         with open(file('given'), 'wb') as f:
             f.writelines(at(*place) + b'\n' for place in places())
-        commands = {'lines': program.proved('lines'), 'C': program.compiled('tests/speed.c', room)}
+        commands = {'lines': program.proved('lines'), 'C': plain.built(room, 'tests/speed.c')}
         if len({subprocess.run(command, input=given(), stdout=subprocess.PIPE, check=True).stdout for command in commands.values()}) > 1:
             raise SystemExit('the two outputs for lines of every kind differ')
         times = {name: [] for name in commands}
