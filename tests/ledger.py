@@ -1,14 +1,12 @@
 #!/usr/bin/env python3
 """docs/LEDGER.md names what is there: each definition, function, theorem and must-fail edit that it cites exists; each theorem
-of a Demands.antt and each must-fail edit is cited, in its column, in a cell that names its crate; and no cell is empty in a
-section that is finished. Prints how many cells are still owed."""
+of a Demands.antt and each must-fail edit is cited, in its column, in a cell that names its crate; and no cell is empty."""
 import glob
 import os
 import re
 import sys
 
 COLUMNS = ['promise', 'definition', 'function', 'theorem', 'must-fail edits', 'run']
-FINISHED = ['Positions', 'The six areas', 'The working rule', 'Floating numbers', 'The unit sheet and its result', 'Refusal numbers', 'The line program']
 
 
 def declared(pattern, expression):
@@ -34,7 +32,7 @@ for path in glob.glob('crates/*/proofs/Demands.antt'):
     found = [re.findall(r'^ +pub (\S+) :' if b.startswith('module') else r'^pub (?!record)(\S+) :', b, re.M) for b in blocks]
     to_cite |= {('theorem', path.split('/')[1], name) for names in found for name in names}
 
-wrong, cited, owed, rows, section = [], set(), 0, 0, ''
+wrong, cited, rows, section = [], set(), 0, ''
 with open('docs/LEDGER.md', encoding='utf-8') as f:
     lines = f.read().split('\n')
 for number, line in enumerate(lines, 1):
@@ -47,14 +45,13 @@ for number, line in enumerate(lines, 1):
         wrong.append(f'docs/LEDGER.md:{number}: {len(cells)} cells, and a row has {len(COLUMNS)}')
         continue
     rows += 1
-    owed += sum(not c for c in cells)
-    if section in FINISHED and not all(cells):
-        wrong.append(f'docs/LEDGER.md:{number}: an empty cell under {section}, which is finished')
+    if not all(cells):
+        wrong.append(f'docs/LEDGER.md:{number}: an empty cell under {section}')
     for column, cell in zip(COLUMNS, cells):
         for name in re.findall(r'`([^`]+)`', cell) if column in there else []:
             cited |= {(column, crate, name) for crate in re.findall(r'\w+', cell)}
             if name not in there[column]:
                 wrong.append(f'docs/LEDGER.md:{number}: there is no {column} `{name}`')
 wrong += [f'docs/LEDGER.md: does not cite {crate}\'s {kind} `{name}`' for kind, crate, name in sorted(to_cite - cited)]
-print('\n'.join(wrong) or f'ledger: {rows} rows, all that they cite is there; {owed} cells owed')
+print('\n'.join(wrong) or f'ledger: {rows} rows, all that they cite is there, and no cell is empty')
 sys.exit(1 if wrong else 0)
