@@ -1,5 +1,5 @@
-"""A program in C that uses tests/bench/plain.c, which has document 01's rules in plain C, and the tables that it takes, written
-from document 000's text, with the areas of tests/pages.py."""
+"""The tables that plain C takes, written from document 000's text, with the areas of tests/pages.py; and a program in C that uses
+tests/bench/plain.c, which has document 01's rules."""
 import os
 
 import document_000

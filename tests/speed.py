@@ -6,7 +6,7 @@ Both programs are x86-64 and read the same file of 1,000,000 lines that are answ
 spread over each area. They run in turn, once unmeasured and then as often as RUNS says. Prints how many lines each answers in
 a second, and how many times as long `lines` takes, by the clock and by the processor's time: medians of the runs. No time is
 held to a limit: it ends with an error where the two outputs differ, on these lines or on those that tests/lines.py makes for
-the program, or where a program cannot be built or run. tests/speed.c is the program in C, with tests/bench/plain.c.
+the program, or where a program cannot be built or run. tests/speed.c is the program in C, and tests/plain.py writes its tables.
 """
 import os
 import random
@@ -58,9 +58,11 @@ def main():
         def file(name):
             return os.path.join(room, name)
 
+        with open(file('tables.h'), 'w', encoding='ascii') as f:
+            f.write(plain.tables())
         with open(file('given'), 'wb') as f:
             f.writelines(at(*place) + b'\n' for place in places())
-        commands = {'lines': program.proved('lines'), 'C': plain.built(room, 'tests/speed.c')}
+        commands = {'lines': program.proved('lines'), 'C': program.compiled(['tests/speed.c'], room)}
         if len({subprocess.run(command, input=given(), stdout=subprocess.PIPE, check=True).stdout for command in commands.values()}) > 1:
             raise SystemExit('the two outputs for lines of every kind differ')
         times = {name: [] for name in commands}
