@@ -24,7 +24,7 @@ wrong = []
 
 
 def source(path):
-    with open(f'crates/datum/{path}', encoding='utf-8') as f:
+    with open(f'crates/tables/{path}', encoding='utf-8') as f:
         return f.read()
 
 

@@ -2,32 +2,19 @@
 use mathlib.Core.Path.{_≡_, refl, sym, ap, _∙_}
 use mathlib.Core.Bool.{true, not, false≢true}
 use mathlib.Core.List.{List}
-use mathlib.Core.Logic.{_⊎_, inl, inr}
 use Prim.Native.Nat.{ℕ, _<_}
 use native.Mathlib.Omega.{arith}
 use lib.IntN.{ℤ, pos}
 use lib.ListN.{length}
 use Rattle.kinds.specs.Answer.{Answer, gives, refused, refusalOf, counted}
-use Rattle.datum.specs.Page.{Family, shift, geoid, isShift, isGeoid, ofEach}
+use Rattle.tables.specs.Page.{Family, shift, geoid, isShift, isGeoid, ofEach}
 use Rattle.datum.specs.Point.{firstOf, secondOf, thirdOf}
 use Rattle.buckettin.specs.Fields.{valueOr}
 
--- an answer whose refusals are above 0 has a value where its number is 0
-pub told : {A : Type 0} (a : Answer A) → ((n : ℕ) → a ≡ refused n → 0 < n) → refusalOf a ≡ 0 → (v : A) × (a ≡ gives v)
-told (gives v) above h = (v, refl)
-told (refused n) above h = absurd (omega (arith, above n refl, h))
-
+-- of a call that writes: bytes were written where the number is 0, if the numbers of refusals are above 0
 pub told-written : (a : Answer (List ℕ)) → ((n : ℕ) → a ≡ refused n → 0 < n) → refusalOf (counted a) ≡ 0 → (bytes : List ℕ) × ((a ≡ gives bytes) × (valueOr 0 (counted a) ≡ length bytes))
 told-written (gives bytes) above h = (bytes, (refl, refl))
 told-written (refused n) above h = absurd (omega (arith, above n refl, h))
-
--- a number that is one of some is above 0 where they are
-pub is : {n : ℕ} (x : ℕ) → 0 < x → n ≡ x → 0 < n
-is x h e = omega (arith, h, e)
-
-pub is-or : {n : ℕ} (x : ℕ) {B : Type 0} → 0 < x → (B → 0 < n) → (n ≡ x) ⊎ B → 0 < n
-is-or x h rest (inl e) = is x h e
-is-or x h rest (inr b) = rest b
 
 -- ---- values of one family, by C's numbers
 same-family : {A B : Type 0} (work : A → B) (f : Family A) → isShift (ofEach work f) ≡ isShift f

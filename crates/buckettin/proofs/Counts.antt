@@ -10,7 +10,7 @@ use borrow.Author.Tests.{leb-true}
 use Rattle.kinds.specs.Answer.{Answer, gives, refused, counted}
 use Rattle.position.specs.Text.{Coordinate, latitude, longitude, textLength, write}
 use Rattle.position.proofs.Demands as position
-use Rattle.sheet.specs.Sheet.{count}
+use Rattle.layout.specs.Sheet.{count}
 use Rattle.sheet.specs.Result.{workOf}
 use Rattle.sheet.proofs.Demands as sheet
 use Rattle.line.specs.Line.{lineOf}

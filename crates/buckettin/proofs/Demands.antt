@@ -2,7 +2,7 @@
 use mathlib.Core.Path.{_≡_, refl, sym, ap, _∙_}
 use mathlib.Core.Bool.{Bool}
 use mathlib.Core.List.{List, [], _∷_, _++_, flatMap}
-use Prim.Native.Nat.{ℕ, _<_, _≤_}
+use Prim.Native.Nat.{ℕ, _≤_}
 use lib.Dec.{lit<}
 use lib.IntN.{ℤ, pos, negℤ}
 use lib.Ieee.{Float}
@@ -10,29 +10,31 @@ use lib.ListN.{length, take, drop}
 use Rattle.whole.specs.Round.{scale, roundDiv}
 use Rattle.whole.specs.Places.{fromPlaces, inPlaces}
 use Rattle.kinds.specs.Answer.{Answer, gives, refused, refusalOf, counted, lent}
+use Rattle.kinds.proofs.Answers.{told, is, is-or}
 use Rattle.position.specs.Text.{Coordinate, latitude, longitude, textLength, isAngle, inSixties, angle, allDigits, number, digitOf, spelled, digits, read, write}
 use Rattle.position.proofs.Demands as position
 use Rattle.equation.specs.Powers.{power, powersOf}
 use Rattle.equation.specs.Equation.{Term, sum, equationOf}
 use Rattle.equation.specs.Exact.{Within}
-use Rattle.datum.specs.Page.{Family, shift, geoid, isShift, isGeoid, isEither, OfShift, OfGeoid}
-use Rattle.datum.specs.Point.{pageOf, powersU, powersV, asked, shiftOf, geoidOf, answerOf, firstOf, secondOf, thirdOf}
+use Rattle.tables.specs.Page.{Family, shift, geoid, isShift, isGeoid, isEither, OfShift, OfGeoid}
+use Rattle.tables.specs.Rule.{powersU, powersV}
+use Rattle.datum.specs.Point.{pageOf, asked, shiftOf, geoidOf, answerOf, firstOf, secondOf, thirdOf}
 use Rattle.datum.specs.Exact.{exact}
 use Rattle.datum.proofs.Demands as datum
 use Rattle.floating.specs.Floats.{seconds, metres, floatingOf, zero, answerInFloats}
 use Rattle.floating.proofs.Demands as floating
-use Rattle.sheet.specs.Numbers as bytes
-use Rattle.sheet.specs.Numbers.{inBytes}
-use Rattle.sheet.specs.Sheet.{serial, datums, codes, count, body, points, pieces, isUnit, rise, isListed}
+use Rattle.numbers.specs.Numbers as bytes
+use Rattle.numbers.specs.Numbers.{inBytes}
+use Rattle.layout.specs.Sheet.{serial, datums, codes, count, body, points, pieces, isUnit, rise, isListed}
 use Rattle.sheet.specs.Result.{resultOf, workOf}
 use Rattle.sheet.proofs.Demands as sheet
-use Rattle.line.specs.Decimal.{printedNumber, decimal, unpadded}
+use Rattle.decimal.specs.Decimal.{printedNumber, decimal, unpadded}
 use Rattle.line.specs.Line.{answerLine, lineOf}
 use Rattle.line.proofs.Demands as line
 use Rattle.buckettin.specs.Fields.{valueOr, shiftFields, geoidFields, readFields, writtenFields}
 use Rattle.buckettin.specs.declared.Shift.{Shift}
 use Rattle.buckettin.specs.declared.Geoid.{Geoid}
-use Rattle.buckettin.proofs.Answers.{told, told-written, is, is-or, as-shift, as-geoid}
+use Rattle.buckettin.proofs.Answers.{told-written, as-shift, as-geoid}
 
 -- ---- 'Refusals return zeros beside the number, zero bytes written, and lent memory as it came'
 pub refused-shift : (a : Answer (Family ℤ)) → (refusalOf a ≡ 0 → ⊥) → shiftFields a ≡ record { refusal = refusalOf a; dlat = pos 0; dlon = pos 0; dh = pos 0 }
@@ -59,9 +61,6 @@ module _ (code latitude longitude : ℤ) where
   abbrev heightInC : Geoid
   heightInC = geoidFields (geoidOf code latitude longitude)
 
-  above : (family : Family (List Term) → Bool) (n : ℕ) → asked family code latitude longitude ≡ refused n → 0 < n
-  above family n e = is-or 4 (lit< tt) (is-or 5 (lit< tt) (is-or 3 (lit< tt) (is 6 (lit< tt)))) (datum.given-one-of family code latitude longitude n e)
-
   work : List Term → ℤ
   work terms = equationOf scale terms (powersU (pageOf code) latitude) (powersV (pageOf code) longitude)
 
@@ -73,14 +72,14 @@ module _ (code latitude longitude : ℤ) where
   pub shift-told : inC .refusal ≡ 0 → shiftOf code latitude longitude ≡ gives (shift (inC .dlat) (inC .dlon) (inC .dh))
   unfolding work
   shift-told h =
-      let t = told (shiftOf code latitude longitude) (above isShift) h in
+      let t = told (shiftOf code latitude longitude) (datum.above-0 isShift code latitude longitude) h in
       let p = datum.answered isShift code latitude longitude (t .0) .0 (t .1) in
       as-shift work (pageOf code .equations) (t .0) (t .1) (p .1 .1) (p .0 .1)
 
   pub geoid-told : heightInC .refusal ≡ 0 → geoidOf code latitude longitude ≡ gives (geoid (heightInC .n))
   unfolding work
   geoid-told h =
-      let t = told (geoidOf code latitude longitude) (above isGeoid) h in
+      let t = told (geoidOf code latitude longitude) (datum.above-0 isGeoid code latitude longitude) h in
       let p = datum.answered isGeoid code latitude longitude (t .0) .0 (t .1) in
       as-geoid work (pageOf code .equations) (t .0) (t .1) (p .1 .1) (p .0 .1)
 

@@ -2,7 +2,7 @@
 use Prim.Native.Nat.{ℕ}
 use lib.IntN.{ℤ, pos}
 use Rattle.kinds.specs.Answer.{Answer, gives, refused, refusalOf}
-use Rattle.datum.specs.Page.{Family}
+use Rattle.tables.specs.Page.{Family}
 use Rattle.datum.specs.Point.{firstOf, secondOf, thirdOf}
 use Rattle.buckettin.specs.declared.Shift.{Shift}
 use Rattle.buckettin.specs.declared.Geoid.{Geoid}

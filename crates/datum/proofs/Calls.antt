@@ -9,13 +9,13 @@ use Rattle.whole.proofs.Words.{of}
 use Rattle.equation.specs.Equation.{Term}
 use Rattle.kinds.specs.Answer.{Answer, gives, refused, provided}
 use Rattle.kinds.proofs.Answers.{passed, failed, same-value}
-use Rattle.datum.specs.Page.{Page, Family, isShift, isGeoid, isEither}
+use Rattle.tables.specs.Page.{Page, Family, isShift, isGeoid, isEither}
+use Rattle.tables.specs.Inside.{shiftPage, geoidPage}
+use Rattle.tables.specs.declared.ShiftDatum.{ShiftDatum}
+use Rattle.tables.specs.declared.ShiftDatum.the-variants.{Cyprus, Minna, Alaska, Qatar}
+use Rattle.tables.specs.declared.GeoidDatum.{GeoidDatum}
+use Rattle.tables.specs.declared.GeoidDatum.the-variants.{Kandawala, Nahrwan}
 use Rattle.datum.specs.Point.{isCode, pageOf, pointOf, asked, answerOf, shiftOf, geoidOf}
-use Rattle.datum.specs.Inside.{shiftPage, geoidPage}
-use Rattle.datum.specs.declared.ShiftDatum.{ShiftDatum}
-use Rattle.datum.specs.declared.ShiftDatum.the-variants.{Cyprus, Minna, Alaska, Qatar}
-use Rattle.datum.specs.declared.GeoidDatum.{GeoidDatum}
-use Rattle.datum.specs.declared.GeoidDatum.the-variants.{Kandawala, Nahrwan}
 use Rattle.datum.proofs.Codes.{codePage}
 
 -- the family of each datum
@@ -76,6 +76,6 @@ module _ (code latitude longitude : ℤ) where
 pub found : {code : ℤ} {a b : Answer Page} → SFits w64 code → a ≡ codePage (toZ w64 (ofZ w64 code)) → a ≡ b → codePage code ≡ b
 found f e h = ap codePage (sym (of f .reads)) ∙ sym e ∙ h
 
--- what `at` gave for the point
+-- what `shift_at` or `geoid_at` gave for the point
 pub there : (page : Page) {latitude longitude : ℤ} {a : Answer (Family ℤ)} → SFits w64 latitude → SFits w64 longitude → a ≡ pointOf page (toZ w64 (ofZ w64 latitude)) (toZ w64 (ofZ w64 longitude)) → a ≡ pointOf page latitude longitude
 there page f g e = e ∙ (λ i. pointOf page (of f .reads i) (of g .reads i))

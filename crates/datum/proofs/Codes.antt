@@ -14,14 +14,9 @@ use mir.Facts.{toZ-ofZ}
 use Rattle.whole.proofs.Bools.{both, joined}
 use Rattle.kinds.specs.Answer.{Answer, gives, refused, provided}
 use Rattle.kinds.specs.Kinds.{within}
-use Rattle.datum.specs.Page.{Page, isShift, isGeoid}
+use Rattle.tables.specs.Page.{Page, isShift, isGeoid}
+use Rattle.tables.proofs.Limits.{page-keeps, six-keep}
 use Rattle.datum.specs.Point.{isCode, pageOf}
-use Rattle.datum.specs.Inside.{shiftPage, geoidPage}
-use Rattle.datum.specs.declared.ShiftDatum.{ShiftDatum}
-use Rattle.datum.specs.declared.ShiftDatum.the-variants.{Cyprus, Minna, Alaska, Qatar}
-use Rattle.datum.specs.declared.GeoidDatum.{GeoidDatum}
-use Rattle.datum.specs.declared.GeoidDatum.the-variants.{Kandawala, Nahrwan}
-use Rattle.datum.proofs.Limits.{page-keeps, six-keep}
 
 -- what holds of 1 to 6 holds of every code
 pub six : (P : ℤ → Type 0) → P (pos 1) → P (pos 2) → P (pos 3) → P (pos 4) → P (pos 5) → P (pos 6) → (code : ℤ) → isCode code ≡ true → P code
@@ -93,16 +88,6 @@ module _ {code : ℤ} (f : SFits w64 code) where
           (λ e. none .1 (is 6 e)) code t refl)
       go false t = refl
 
--- the pages of the code's datums are among the six
-pub shift-keeps : (d : ShiftDatum) → T (page-keeps (shiftPage d))
-shift-keeps Cyprus = six-keep 0 (lit< tt)
-shift-keeps Minna = six-keep 1 (lit< tt)
-shift-keeps Alaska = six-keep 2 (lit< tt)
-shift-keeps Qatar = six-keep 3 (lit< tt)
-
-pub geoid-keeps : (d : GeoidDatum) → T (page-keeps (geoidPage d))
-geoid-keeps Kandawala = six-keep 4 (lit< tt)
-geoid-keeps Nahrwan = six-keep 5 (lit< tt)
-
+-- the pages of the codes keep their limits
 pub code-keeps : (code : ℤ) → isCode code ≡ true → T (page-keeps (pageOf code))
 code-keeps = six (λ z. T (page-keeps (pageOf z))) (six-keep 0 (lit< tt)) (six-keep 1 (lit< tt)) (six-keep 2 (lit< tt)) (six-keep 3 (lit< tt)) (six-keep 4 (lit< tt)) (six-keep 5 (lit< tt))

@@ -1,25 +1,23 @@
--- What document 01 asks of the tables, of the areas and of a point's answer. Stated over specs/ alone. Assumes nothing.
+-- What document 01 asks of a point's answer. Stated over specs/ alone. Assumes nothing.
 use mathlib.Core.Path.{_≡_, refl, sym, ap, subst}
 use mathlib.Core.Bool.{Bool, true, false, false≢true}
-use mathlib.Core.List.{List, [], _∷_, map}
+use mathlib.Core.List.{List, [], _∷_}
 use mathlib.Core.Logic.{_↔_, _⊎_}
-use Prim.Native.Nat.{ℕ, _^_}
+use Prim.Native.Nat.{ℕ, _<_, _^_}
 use lib.Dec.{T, lit<, lit≤}
 use lib.IntN.{ℤ, pos, negℤ, _-ℤ_, _*ℤ_}
-use Rattle.whole.specs.Round.{scale, roundDiv}
-use Rattle.whole.specs.Every.{every}
+use Rattle.whole.specs.Round.{roundDiv}
 use Rattle.kinds.specs.Answer.{Answer, gives, refused, provided}
 use Rattle.kinds.specs.Kinds.{within, isFourBytes}
-use Rattle.kinds.proofs.Answers.{number-back, rebuilt, determined}
+use Rattle.kinds.proofs.Answers.{number-back, rebuilt, determined, is, is-or}
 use Rattle.equation.specs.Powers.{power, powersOf}
 use Rattle.equation.specs.Equation.{Term, sum}
 use Rattle.equation.specs.Exact.{whole, _times_, _to-the_, exactOf, Within, Beyond}
 use Rattle.equation.proofs.Fractions.{reaches}
-use Rattle.equation.proofs.Demands as equation
-use Rattle.datum.specs.Page.{Page, Family, shift, geoid, isShift, isGeoid, isEither, each, Each, OfShift, OfGeoid}
-use Rattle.datum.specs.Point.{isCode, pages, pageOf, inArea, inRange, evaluated, worked, pointOf, asked, answerOf, shiftOf, geoidOf, valuesOf}
+use Rattle.tables.specs.Page.{Page, Family, shift, geoid, isShift, isGeoid, isEither, each, Each, OfShift, OfGeoid}
+use Rattle.tables.specs.Rule.{inArea, worked}
+use Rattle.datum.specs.Point.{isCode, pageOf, inRange, pointOf, asked, answerOf, shiftOf, geoidOf, valuesOf}
 use Rattle.datum.specs.Exact.{exact, AllWithin, demanded, boundsOf}
-use Rattle.datum.specs.Tables.{counted, inAll, stands, Reordered, ends}
 use Rattle.datum.specs.Cases.{shiftAnswer, geoidAnswer, pointAnswer}
 use Rattle.kinds.specs.declared.Refusal.the-variants as Refusal
 use Rattle.kinds.specs.declared.HeightAnswer.{HeightAnswer}
@@ -32,28 +30,6 @@ use Rattle.datum.proofs.Codes.{six, not-shift, not-geoid, code-keeps}
 use Rattle.datum.proofs.Points.{fit}
 use Rattle.datum.proofs.Refusals as refusals
 use Rattle.datum.proofs.Errors.{page-bounded, point-near, no-narrower, all-widened, over-power, centres-apart, no-one-answer}
-
--- ---- 'Terms with the constant, in that order .. In all 157 terms'
-pub terms-counted : map (λ (page : Page). counted (page .equations)) pages ≡ shift 4 7 11 ∷ shift 16 9 9 ∷ shift 20 23 17 ∷ shift 9 7 9 ∷ geoid 9 ∷ geoid 7 ∷ []
-terms-counted = refl
-
-pub terms-in-all : inAll pages ≡ 157
-terms-in-all = refl
-
--- ---- 'The tables stand by rising power of longitude, then of latitude'; and each power is one of the ten
-pub tables-stand : T (every (λ page. each stands (page .equations)) pages)
-tables-stand = tt
-
--- ---- 'Both ends belong to the area'
-pub ends-belong : T (every ends pages)
-ends-belong = tt
-
--- ---- the answer does not depend on the order of a table's terms
-pub any-order : (f g : Family (List Term)) → Reordered f g → (pu pv : List ℤ) → evaluated f pu pv ≡ evaluated g pu pv
-any-order (shift a b c) (shift d e f) p pu pv = λ i. shift (equation.any-order scale (p .0) pu pv i) (equation.any-order scale (p .1) pu pv i) (equation.any-order scale (p .2) pu pv i)
-any-order (geoid m) (geoid n) p pu pv = ap geoid (equation.any-order scale p pu pv)
-any-order (shift a b c) (geoid n) p pu pv = absurd p
-any-order (geoid n) (shift a b c) p pu pv = absurd p
 
 -- ---- 'Order for a point: 4, 5, 3, 6': when each number is given, whichever family is asked of
 module _ (family : Family (List Term) → Bool) (code latitude longitude : ℤ) where
@@ -78,6 +54,10 @@ module _ (family : Family (List Term) → Bool) (code latitude longitude : ℤ) 
   -- no other number is given
   pub given-one-of : (n : ℕ) → asked family code latitude longitude ≡ refused n → (n ≡ 4) ⊎ ((n ≡ 5) ⊎ ((n ≡ 3) ⊎ (n ≡ 6)))
   given-one-of = refusals.one-of (isCode code) isAsked (inRange latitude longitude) (inArea page latitude longitude) (worked page latitude longitude)
+
+  -- so 0 is the number of none
+  pub above-0 : (n : ℕ) → asked family code latitude longitude ≡ refused n → 0 < n
+  above-0 n e = is-or 4 (lit< tt) (is-or 5 (lit< tt) (is-or 3 (lit< tt) (is 6 (lit< tt)))) (given-one-of n e)
 
   -- and where none is, the answer is the one that the printed coefficients give
   pub answered : (values : Family ℤ) → (asked family code latitude longitude ≡ gives values) ↔ (((isCode code ≡ true) × (isAsked ≡ true)) × (((inRange latitude longitude ≡ true) × (inArea page latitude longitude ≡ true)) × (worked page latitude longitude ≡ values)))

@@ -13,12 +13,13 @@ use Rattle.equation.specs.Equation.{Term, equationOf}
 use Rattle.equation.specs.Exact.{Fraction, _over_, whole, _times_, _to-the_, exactOf, Within}
 use Rattle.equation.proofs.Fractions.{exact-proper, same-times, within-same, within-wider, within-both, reaches, common, over-common}
 use Rattle.equation.proofs.Errors.{bounded, bounded-wider, answer-near}
-use Rattle.datum.specs.Page.{Page, Family, shift, geoid, each, Each, Paired}
-use Rattle.datum.specs.Point.{isCode, pageOf, inArea, powersU, powersV, evaluated, worked}
+use Rattle.tables.specs.Page.{Page, Family, shift, geoid, each, Each, Paired}
+use Rattle.tables.specs.Rule.{inArea, powersU, powersV, evaluated, worked}
+use Rattle.tables.proofs.Families.{three, each-by, each-of, paired, paired-by, shift-so, geoid-so}
+use Rattle.tables.proofs.Limits.{most-u, most-v, u-size, v-size}
+use Rattle.datum.specs.Point.{isCode, pageOf}
 use Rattle.datum.specs.Exact.{exactFrom, polynomials, exact, AllNear, AllWithin, demanded, boundsOf}
-use Rattle.datum.proofs.Families.{three, each-by, each-of, paired, paired-by, shift-so, geoid-so}
 use Rattle.datum.proofs.Codes.{six}
-use Rattle.datum.proofs.Limits.{most-u, most-v, u-size, v-size}
 
 -- ---- the test of a page: each equation, with its bound in nths of a unit
 -- errors on the way are counted in millionths

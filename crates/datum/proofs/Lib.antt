@@ -1,8 +1,4 @@
--- The laws, by what they are about.
--- what holds of each of a family's values
-pub mod Families
--- how far a page reaches: what one computed test shows of every point of its area
-pub mod Limits
+-- The laws, by what they are about. Another crate cites them as `Rattle.datum.proofs.NAME`.
 -- the six codes: the page and the family of each
 pub mod Codes
 -- a point in a frame: what each test says, and what the code worked out
@@ -15,5 +11,5 @@ pub mod Calls
 pub mod Refusals
 -- how near a point's answer is to the exact value: the test of each page, and what it shows
 pub mod Errors
--- what document 01 asks of the tables, the areas and a point's answer
+-- what document 01 asks of a point's answer
 pub mod Demands

@@ -9,9 +9,9 @@ use Rattle.whole.proofs.Words.{of}
 use Rattle.kinds.specs.Answer.{Answer, gives, refused, provided}
 use Rattle.kinds.specs.Kinds.{within, isLatitude, isLongitude, tested}
 use Rattle.kinds.proofs.Answers.{passed, failed, same-value}
-use Rattle.datum.specs.Point.{fromCentre}
+use Rattle.tables.specs.Rule.{fromCentre}
+use Rattle.tables.specs.declared.Frame.{Frame}
 use Rattle.datum.specs.Inside.{placeOf}
-use Rattle.datum.specs.declared.Frame.{Frame}
 
 -- ---- a raw number, tested by its kind
 module _ (inside : ℤ → Bool) {raw : ℤ} (f : SFits w64 raw) where

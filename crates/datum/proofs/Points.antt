@@ -16,10 +16,12 @@ use Rattle.kinds.proofs.Tested.{in-four-bytes}
 use Rattle.kinds.proofs.Answers.{passed, same-value}
 use Rattle.equation.specs.Powers.{powersOf}
 use Rattle.equation.specs.Equation.{Term, equationOf}
-use Rattle.datum.specs.Page.{Page, Family, shift, geoid, each}
-use Rattle.datum.specs.Point.{fromCentre, inArea, inRange, evaluated, powersU, powersV, worked, pointOf}
-use Rattle.datum.specs.Inside.{frameOf, placeOf, AllFit}
-use Rattle.datum.proofs.Limits.{page-keeps, u-small, v-small, work}
+use Rattle.tables.specs.Page.{Page, Family, shift, geoid, each}
+use Rattle.tables.specs.Rule.{fromCentre, inArea, evaluated, powersU, powersV, worked}
+use Rattle.tables.specs.Inside.{frameOf, AllFit}
+use Rattle.tables.proofs.Limits.{page-keeps, u-small, v-small, work}
+use Rattle.datum.specs.Point.{inRange, pointOf}
+use Rattle.datum.specs.Inside.{placeOf}
 use Rattle.datum.proofs.Places.{as-small}
 
 -- what is left to do with a place

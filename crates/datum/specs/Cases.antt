@@ -1,21 +1,14 @@
 -- What each case of an answer says, in document 01's numbers.
 use lib.IntN.{ℤ}
 use Rattle.kinds.specs.Answer.{Answer, gives, refused, numberOf}
-use Rattle.datum.specs.Page.{Family, shift, geoid}
-use Rattle.kinds.specs.declared.Height.{Height}
 use Rattle.kinds.specs.declared.HeightAnswer.{HeightAnswer}
 use Rattle.kinds.specs.declared.HeightAnswer.the-variants as Geoid
-use Rattle.datum.specs.declared.Shifts.{Shifts}
+use Rattle.tables.specs.Page.{Family}
+use Rattle.tables.specs.Cases.{shiftSays, geoidSays}
 use Rattle.datum.specs.declared.ShiftAnswer.{ShiftAnswer}
 use Rattle.datum.specs.declared.ShiftAnswer.the-variants as Shifted
 use Rattle.datum.specs.declared.PointAnswer.{PointAnswer}
 use Rattle.datum.specs.declared.PointAnswer.the-variants as Point
-
-abbrev pub shiftSays : Shifts → Family ℤ
-shiftSays s = shift (s .latitude .0) (s .longitude .0) (s .height .0)
-
-abbrev pub geoidSays : Height → Family ℤ
-geoidSays n = geoid (n .0)
 
 abbrev pub shiftAnswer : ShiftAnswer → Answer (Family ℤ)
 shiftAnswer (Shifted.Gives s) = gives (shiftSays s)

@@ -5,7 +5,7 @@ use lib.IntN.{ℤ, pos, _-ℤ_, _*ℤ_}
 use lib.ListN.{getD}
 use Rattle.equation.specs.Equation.{Term}
 use Rattle.equation.specs.Exact.{Fraction, _over_, exactOf, Within}
-use Rattle.datum.specs.Page.{Page, Family, shift, geoid, ofEach, OfShift, OfGeoid}
+use Rattle.tables.specs.Page.{Page, Family, shift, geoid, ofEach, OfShift, OfGeoid}
 use Rattle.datum.specs.Point.{row}
 
 -- ---- the exact values

@@ -1,12 +1,4 @@
-pub mod Page
-pub mod Cyprus
-pub mod Minna
-pub mod Alaska
-pub mod Qatar
-pub mod Kandawala
-pub mod Nahrwan
 pub mod Point
 pub mod Exact
-pub mod Tables
 pub mod Cases
 pub mod Inside

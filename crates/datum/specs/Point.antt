@@ -1,21 +1,16 @@
--- Document 01, 'The six areas', 'The working rule' and 'Refusal numbers': the answer of a point.
+-- Document 01, 'The six areas' and 'Refusal numbers': the answer of a point.
 use mathlib.Core.Bool.{Bool, _&&_}
 use mathlib.Core.List.{List, [], _∷_}
 use Prim.Native.Nat.{ℕ, _-_}
-use lib.IntN.{ℤ, pos, natAbs, _-ℤ_, _*ℤ_}
+use lib.IntN.{ℤ, pos, natAbs}
 use lib.ListN.{getD}
-use Rattle.whole.specs.Round.{roundDiv, scale}
 use Rattle.kinds.specs.Answer.{Answer, gives, refused, provided}
 use Rattle.kinds.specs.Kinds.{within, isLatitude, isLongitude}
-use Rattle.equation.specs.Powers.{powersOf}
-use Rattle.equation.specs.Equation.{Term, equationOf}
-use Rattle.datum.specs.Page.{Page, Family, shift, geoid, isShift, isGeoid, isEither, ofEach}
-use Rattle.datum.specs.Cyprus.{cyprus}
-use Rattle.datum.specs.Minna.{minna}
-use Rattle.datum.specs.Alaska.{alaska}
-use Rattle.datum.specs.Qatar.{qatar}
-use Rattle.datum.specs.Kandawala.{kandawala}
-use Rattle.datum.specs.Nahrwan.{nahrwan}
+use Rattle.equation.specs.Equation.{Term}
+use Rattle.tables.specs.Page.{Page, Family, shift, geoid, isShift, isGeoid, isEither}
+use Rattle.tables.specs.Cyprus.{cyprus}
+use Rattle.tables.specs.Rule.{inArea, worked}
+use Rattle.tables.specs.Tables.{pages}
 
 -- ---- the six codes
 abbrev pub isCode : ℤ → Bool
@@ -26,34 +21,8 @@ abbrev pub row : ℤ → ℕ
 row code = natAbs code - 1
 
 -- their pages
-abbrev pub pages : List Page
-pages = cyprus ∷ minna ∷ alaska ∷ qatar ∷ kandawala ∷ nahrwan ∷ []
-
 abbrev pub pageOf : ℤ → Page
 pageOf code = getD pages (row code) cyprus
-
--- the area: both ends belong to it
-abbrev pub inArea : Page → ℤ → ℤ → Bool
-inArea page latitude longitude = within (pos (page .south)) (pos (page .north)) latitude && within (pos (page .west)) (pos (page .east)) longitude
-
--- ---- the working rule
--- 1. K times the latitude less the centre's, divided by 3,600,000 and rounded; longitude likewise
-abbrev pub fromCentre : ℤ → ℤ → ℤ → ℤ
-fromCentre k centre x = roundDiv (k *ℤ (x -ℤ centre)) 3600000
-
--- 2. the ten powers of u and of v
-abbrev pub powersU : Page → ℤ → List ℤ
-powersU page latitude = powersOf scale (fromCentre (pos (page .k)) (pos (page .latitude)) latitude) 10
-
-abbrev pub powersV : Page → ℤ → List ℤ
-powersV page longitude = powersOf scale (fromCentre (pos (page .k)) (pos (page .longitude)) longitude) 10
-
--- 3. and 4. each equation: dLat and dLon in 0.00001", dH and N in mm
-abbrev pub evaluated : Family (List Term) → List ℤ → List ℤ → Family ℤ
-evaluated equations pu pv = ofEach (λ terms. equationOf scale terms pu pv) equations
-
-abbrev pub worked : Page → ℤ → ℤ → Family ℤ
-worked page latitude longitude = evaluated (page .equations) (powersU page latitude) (powersV page longitude)
 
 -- ---- the answer
 abbrev pub inRange : ℤ → ℤ → Bool

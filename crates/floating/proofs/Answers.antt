@@ -8,15 +8,15 @@ use lib.IntN.{ℤ, natAbs}
 use lib.Ieee.{Float}
 use lib.Ieee.Bits.{is-true}
 use Rattle.whole.proofs.Words.{sized}
-use Rattle.kinds.specs.Answer.{Answer, gives, refused, refusalOf}
+use Rattle.kinds.specs.Answer.{Answer, gives, refused}
 use Rattle.kinds.specs.Kinds.{isFourBytes}
 use Rattle.kinds.proofs.Answers.{not-both, same-value}
 use Rattle.kinds.proofs.Tested.{of-four-bytes}
 use Rattle.equation.specs.Exact.{Fraction, Within, NearTo}
 use Rattle.equation.proofs.Fractions.{within-wider, near-wider, within-both}
-use Rattle.datum.specs.Page.{Family, shift, geoid, ofEach, each, Each}
+use Rattle.tables.specs.Page.{Family, shift, geoid, ofEach, each, Each}
 use Rattle.datum.specs.Exact.{AllWithin}
-use Rattle.datum.proofs.Families.{each-by, shift-so, geoid-so}
+use Rattle.tables.proofs.Families.{each-by, shift-so, geoid-so}
 use Rattle.datum.proofs.Errors.{no-narrower, all-nearer}
 use Rattle.floating.specs.Floats.{_dividedBy_, perSecond, perMetre, seconds, metres, inFloats, answerInFloats}
 use Rattle.floating.specs.Value.{inUnits, allInUnits, FloatsWithin}
@@ -93,8 +93,3 @@ same-answers (refused n) (gives b) h k s = absurd (not-both (sym s))
 pub was-refused : (whole : Answer (Family ℤ)) {n : ℕ} → answerInFloats whole ≡ refused n → whole ≡ refused n
 was-refused (gives values) h = absurd (not-both h)
 was-refused (refused m) h = ap refused cc
-
-pub not-refused : (whole : Answer (Family ℤ)) → ((n : ℕ) → whole ≡ refused n → 0 < n) → refusalOf (answerInFloats whole) ≡ 0
-    → (floats : Family Float) × (answerInFloats whole ≡ gives floats)
-not-refused (gives values) above h = (inFloats values, refl)
-not-refused (refused n) above h = absurd (omega (arith, above n refl, h))

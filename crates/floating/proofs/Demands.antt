@@ -2,10 +2,9 @@
 use mathlib.Core.Path.{_≡_, refl, sym, ap, _∙_, subst}
 use mathlib.Core.Bool.{true}
 use mathlib.Core.List.{List, [], _∷_, map}
-use mathlib.Core.Logic.{_↔_, _⊎_, inl, inr}
-use Prim.Native.Nat.{ℕ, _+_, _<_}
+use mathlib.Core.Logic.{_↔_}
+use Prim.Native.Nat.{ℕ, _+_}
 use native.Mathlib.Nat.{le-trans}
-use native.Mathlib.Omega.{arith}
 use lib.Dec.{T, lit<, lit≤}
 use lib.IntN.{ℤ, pos, negℤ}
 use lib.Ieee.{Float, binary64, div, ofBits, ofInt, round}
@@ -13,11 +12,13 @@ use Rattle.whole.specs.Round.{roundDiv}
 use Rattle.kinds.specs.Answer as Said
 use Rattle.kinds.specs.Answer.{gives, refused, refusalOf}
 use Rattle.kinds.specs.Kinds.{isFourBytes}
+use Rattle.kinds.proofs.Answers.{told}
 use Rattle.equation.specs.Powers.{power, powersOf}
 use Rattle.equation.specs.Equation.{sum}
 use Rattle.equation.specs.Exact.{_over_, whole, Within}
-use Rattle.datum.specs.Page.{Family, shift, geoid, isEither, ofEach}
-use Rattle.datum.specs.Point.{pageOf, answerOf, worked, firstOf, secondOf, thirdOf}
+use Rattle.tables.specs.Page.{Family, shift, geoid, isEither, ofEach}
+use Rattle.tables.specs.Rule.{worked}
+use Rattle.datum.specs.Point.{pageOf, answerOf, firstOf, secondOf, thirdOf}
 use Rattle.datum.specs.Exact.{exact, demanded, boundsOf}
 use Rattle.datum.proofs.Codes.{six}
 use Rattle.datum.proofs.Errors.{no-narrower}
@@ -170,15 +171,9 @@ module _ (code latitude longitude : ℤ) where
   -- 'or 0 for an answered point', and for no other
   pub answered-0 : (refusalOf (floatingOf code latitude longitude) ≡ 0) ↔ ((floats : Family Float) × (floatingOf code latitude longitude ≡ gives floats))
   answered-0 = (
-    (λ h. answers.not-refused (answerOf code latitude longitude) (λ n e. above n (datum.given-one-of isEither code latitude longitude n e)) h),
+    (λ h. told (floatingOf code latitude longitude) (λ n e. datum.above-0 isEither code latitude longitude n (answers.was-refused (answerOf code latitude longitude) e)) h),
     (λ p. ap refusalOf (p .1)),
   )
-    where
-      above : (n : ℕ) → (n ≡ 4) ⊎ ((n ≡ 5) ⊎ ((n ≡ 3) ⊎ (n ≡ 6))) → 0 < n
-      above n (inl e) = omega arith
-      above n (inr (inl e)) = omega arith
-      above n (inr (inr (inl e))) = omega arith
-      above n (inr (inr (inr e))) = omega arith
 
 -- ---- 'that two permitted answers coincide is proved'
 pub floats-determined : (a b : ShiftFloats) → floatsSay a ≡ floatsSay b → a ≡ b

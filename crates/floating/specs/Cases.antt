@@ -1,7 +1,7 @@
 -- What each case of an answer says, in document 01's numbers and values.
 use lib.Ieee.{Float}
 use Rattle.kinds.specs.Answer as Said
-use Rattle.datum.specs.Page.{Family, shift, geoid}
+use Rattle.tables.specs.Page.{Family, shift, geoid}
 use Rattle.floating.specs.declared.ShiftFloats.{ShiftFloats}
 use Rattle.floating.specs.declared.Answer.{Answer}
 use Rattle.floating.specs.declared.Answer.the-variants.{Shift, Geoid, Refused}

@@ -3,7 +3,7 @@ use Prim.Native.Nat.{ℕ}
 use lib.IntN.{ℤ, pos}
 use lib.Ieee.{Float, binary64, div, ofInt}
 use Rattle.kinds.specs.Answer.{Answer, gives, refused}
-use Rattle.datum.specs.Page.{Family, shift, geoid}
+use Rattle.tables.specs.Page.{Family, shift, geoid}
 use Rattle.datum.specs.Point.{answerOf}
 
 -- the whole answer made a 64-bit float, then divided once, rounded by IEEE 754

@@ -4,7 +4,7 @@ use Prim.Native.Nat.{ℕ, _*_}
 use lib.IntN.{pos, negℤ}
 use lib.Ieee.{Float, nan, inf, fin, up, down}
 use Rattle.equation.specs.Exact.{Fraction, _over_, whole, _times_, NearTo}
-use Rattle.datum.specs.Page.{Family, shift, geoid}
+use Rattle.tables.specs.Page.{Family, shift, geoid}
 use Rattle.datum.specs.Exact.{AllNear}
 
 -- `fin s m e` is m * 2 ^ e, negative where s is true; what is no number has a bottom that is zero, and is near to nothing

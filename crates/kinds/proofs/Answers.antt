@@ -3,11 +3,11 @@ use mathlib.Core.Path.{_≡_, refl, sym, ap, _∙_}
 use mathlib.Core.Bool.{Bool, true, false, _&&_, cond}
 use mathlib.Core.List.{List, [], _∷_, _++_}
 use mathlib.Core.Logic.{_⊎_, inl, inr, ⊎-elim}
-use Prim.Native.Nat.{ℕ}
+use Prim.Native.Nat.{ℕ, _<_}
 use native.Mathlib.Omega.{arith}
 use lib.Dec.{eqb}
 use Rattle.whole.proofs.Bools.{both}
-use Rattle.kinds.specs.Answer.{Answer, gives, refused, provided, Test, _else_, inOrder, AllHold, FirstFails, following, numberOf}
+use Rattle.kinds.specs.Answer.{Answer, gives, refused, provided, Test, _else_, inOrder, AllHold, FirstFails, following, refusalOf, numberOf}
 use Rattle.kinds.specs.declared.Refusal.{Refusal}
 use Rattle.kinds.specs.declared.Refusal.the-variants.{Length, Kind, Range, Code, Family, Area, Room, Foreign, Sheet}
 
@@ -122,3 +122,17 @@ module _ {E A : Type 0} (yes : A → E) (no : Refusal → E) where
 
   pub determined : (said : E → Answer A) → ((e : E) → rebuilt (said e) ≡ e) → (a b : E) → said a ≡ said b → a ≡ b
   determined said back a b h = sym (back a) ∙ ap rebuilt h ∙ back b
+
+-- ---- 0 is the number of no refusal
+-- an answer whose refusals are above 0 has a value where its number is 0
+pub told : {A : Type 0} (a : Answer A) → ((n : ℕ) → a ≡ refused n → 0 < n) → refusalOf a ≡ 0 → (v : A) × (a ≡ gives v)
+told (gives v) above h = (v, refl)
+told (refused n) above h = absurd (omega (arith, above n refl, h))
+
+-- a number that is one of some is above 0 where they are
+pub is : {n : ℕ} (x : ℕ) → 0 < x → n ≡ x → 0 < n
+is x h e = omega (arith, h, e)
+
+pub is-or : {n : ℕ} (x : ℕ) {B : Type 0} → 0 < x → (B → 0 < n) → (n ≡ x) ⊎ B → 0 < n
+is-or x h rest (inl e) = is x h e
+is-or x h rest (inr b) = rest b

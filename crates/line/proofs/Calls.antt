@@ -10,8 +10,9 @@ use Rattle.kinds.specs.Answer.{Answer, gives, refused, inOrder, placed, counted
 use Rattle.kinds.proofs.Answers.{same-value, all-held, held, first-failed, fails, in-two, following-tests}
 use Rattle.kinds.proofs.Writing.{Written}
 use Rattle.position.specs.Text.{latitude, longitude, letter, angle, inSixties, noZeroSouth, inRange, rightRanges}
-use Rattle.datum.specs.Page.{Family}
-use Rattle.datum.specs.Point.{answerOf, pageOf, worked}
+use Rattle.tables.specs.Page.{Family}
+use Rattle.tables.specs.Rule.{worked}
+use Rattle.datum.specs.Point.{answerOf, pageOf}
 use Rattle.datum.specs.Cases.{pointAnswer}
 use Rattle.datum.specs.declared.PointAnswer.{PointAnswer}
 use Rattle.line.specs.Line.{code, latitudeText, longitudeText, latitudeOf, longitudeOf, lineRanges, readTests, pointTests, answerLine, lineOf}

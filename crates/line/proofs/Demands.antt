@@ -1,31 +1,29 @@
 -- What document 01 asks of the line program, of one line. Stated over specs/ alone. Assumes nothing.
 use mathlib.Core.Path.{_≡_, refl, sym, _∙_}
-use mathlib.Core.Bool.{true, false, not, _||_, false≢true}
+use mathlib.Core.Bool.{true, not, _||_, false≢true}
 use mathlib.Core.List.{List, [], _∷_, _++_}
 use mathlib.Core.Logic.{_↔_, _⊎_, inl, inr, ⊎-elim}
-use Prim.Native.Nat.{ℕ, suc, _<_, _≤_, _^_}
+use Prim.Native.Nat.{ℕ, _<_, _≤_}
 use lib.Dec.{eqb}
 use lib.IntN.{ℤ, pos, negℤ}
-use lib.ListN.{length, getD}
+use lib.ListN.{length}
 use borrow.Author.Tests.{eqb-true}
 use Rattle.whole.specs.Places.{fromPlaces, inPlaces}
 use Rattle.whole.proofs.Bools.{either}
 use Rattle.kinds.specs.Answer.{gives, refused, AllHold, FirstFails, inOrder, placed}
 use Rattle.kinds.proofs.Answers.{held, first-number, in-two, following-tests}
 use Rattle.kinds.proofs.Demands as kinds
-use Rattle.kinds.specs.Kinds.{isFourBytes}
 use Rattle.position.specs.Text.{latitude, longitude, inRange, allDigits, number, digitOf, digits, isAngle, inSixties, angle}
-use Rattle.datum.specs.Page.{Family, shift, geoid, isEither}
+use Rattle.tables.specs.Page.{Family, shift, geoid, isEither}
+use Rattle.tables.specs.Rule as rule
 use Rattle.datum.specs.Point.{answerOf, pageOf}
-use Rattle.datum.specs.Point as rule
 use Rattle.datum.specs.Exact.{exact, AllWithin, demanded}
 use Rattle.datum.proofs.Demands as datum
-use Rattle.line.specs.Decimal.{unpadded, decimal, printedNumber}
+use Rattle.decimal.specs.Decimal.{unpadded, decimal, printedNumber}
 use Rattle.line.specs.Line.{codeByte, code, latitudeOf, longitudeOf, readTests, pointTests, tests, pointOf, answerLine, lineOf}
 use Rattle.line.specs.Form.{lineBytes}
 use Rattle.line.proofs.Calls.{in-range}
 use Rattle.line.proofs.Form as form
-use Rattle.line.proofs.Apart as apart
 use Rattle.line.proofs.Lines as lines
 
 -- ---- 'code digit, space, latitude text, space, longitude text; 26 bytes before the line feed'
@@ -119,29 +117,8 @@ of-point line {values} h =
 pub near : (line : List ℕ) {values : Family ℤ} → pointOf line ≡ gives values → AllWithin 1 (demanded values) (exact (pageOf (code line)) (latitudeOf line) (longitudeOf line)) values
 near line h = datum.as-demanded isEither (code line) (latitudeOf line) (longitudeOf line) (of-point line h)
 
--- ---- 'A minus sign stands first and the digits follow it .., without leading zeros; zero is `0`'
--- of a number below zero the digits are those of its size
-pub sign-first : (n : ℕ) → (printedNumber (pos n) ≡ decimal n) × (printedNumber (negℤ (pos (suc n))) ≡ 45 ∷ decimal (suc n))
-unfolding printedNumber
-sign-first n = (refl, refl)
-
--- and they say it
-pub digits-say : (n : ℕ) → n < 10 ^ 10 → (allDigits (decimal n) ≡ true) × (number (decimal n) ≡ n)
-digits-say n h = apart.digits-say n h
-
--- there is one at least, and the first is a zero only where it is the only one
-pub no-leading-zero : (n : ℕ) → (0 < length (decimal n)) × (getD (decimal n) 0 0 ≡ 48 → length (decimal n) ≡ 1)
-no-leading-zero n = apart.no-leading-zero n
-
--- and no other text of up to ten digits is like that: the number of such a text is printed as the text
-pub one-text : (t : List ℕ) → allDigits t ≡ true → 0 < length t → length t ≤ 10 → (getD t 0 0 ≡ 48 → length t ≡ 1) → decimal (number t) ≡ t
-one-text t all some few first = apart.one-text t all some few first
-
--- so two 4-byte numbers that are printed alike are the same
-pub printed-apart : (x y : ℤ) → isFourBytes x ≡ true → isFourBytes y ≡ true → printedNumber x ≡ printedNumber y → x ≡ y
-printed-apart x y f g h = apart.printed-apart x y f g h
-
--- and two answers that are printed alike are the same: the line tells its numbers, and which family they are of
+-- ---- the line tells its numbers, and which family they are of
+-- two answers that are printed alike are the same
 pub answers-apart : (line other : List ℕ) {v w : Family ℤ} → pointOf line ≡ gives v → pointOf other ≡ gives w → answerLine v ≡ answerLine w → v ≡ w
 answers-apart line other {v} {w} h k same =
     lines.lines-apart v w
@@ -149,18 +126,11 @@ answers-apart line other {v} {w} h k same =
     (datum.four-bytes isEither (code other) (latitudeOf other) (longitudeOf other) (of-point other k))
     same
 
--- numbers as they are printed: 0, 7, -7, 10, the largest of 4 bytes and the least
+-- 'dLat, dLon and dH in answer units with one space between, or N alone': the centres of codes 1 and 6
 pub record Printed : Type 0 where
-  pub nothing : printedNumber (pos 0) ≡ 48 ∷ []
-  pub seven : printedNumber (pos 7) ≡ 55 ∷ []
-  pub less-seven : printedNumber (negℤ (pos 7)) ≡ 45 ∷ 55 ∷ []
-  pub ten : printedNumber (pos 10) ≡ 49 ∷ 48 ∷ []
-  pub largest : printedNumber (pos 2147483647) ≡ 50 ∷ 49 ∷ 52 ∷ 55 ∷ 52 ∷ 56 ∷ 51 ∷ 54 ∷ 52 ∷ 55 ∷ []
-  pub least : printedNumber (negℤ (pos 2147483648)) ≡ 45 ∷ 50 ∷ 49 ∷ 52 ∷ 55 ∷ 52 ∷ 56 ∷ 51 ∷ 54 ∷ 52 ∷ 56 ∷ []
-  -- 'dLat, dLon and dH in answer units with one space between, or N alone': the centres of codes 1 and 6
   pub shifts : answerLine (shift (negℤ (pos 384288)) (negℤ (pos 110294)) (pos 24430)) ≡ 45 ∷ 51 ∷ 56 ∷ 52 ∷ 50 ∷ 56 ∷ 56 ∷ 32 ∷ 45 ∷ 49 ∷ 49 ∷ 48 ∷ 50 ∷ 57 ∷ 52 ∷ 32 ∷ 50 ∷ 52 ∷ 52 ∷ 51 ∷ 48 ∷ 10 ∷ []
   pub height : answerLine (geoid (pos 7464)) ≡ 55 ∷ 52 ∷ 54 ∷ 52 ∷ 10 ∷ []
 
 pub printed : Printed
 unfolding printedNumber decimal unpadded digits inPlaces answerLine
-printed = record { nothing = refl; seven = refl; less-seven = refl; ten = refl; largest = refl; least = refl; shifts = refl; height = refl }
+printed = record { shifts = refl; height = refl }

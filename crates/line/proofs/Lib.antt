@@ -1,8 +1,4 @@
 -- The laws, by what they are about. Another crate cites them as `Rattle.line.proofs.NAME`.
--- a number as it is printed
-pub mod Numbers
--- what is printed says the number, and no other text of up to ten digits does so without leading zeros
-pub mod Apart
 -- a line that is read, from its latitude and its longitude
 pub mod Reading
 -- a line that is written number by number

@@ -13,11 +13,11 @@ use Rattle.whole.proofs.Every.{every-weaker}
 use Rattle.kinds.specs.Kinds.{isFourBytes}
 use Rattle.position.specs.Text.{isDigit, allDigits, digits}
 use Rattle.position.proofs.Digits.{all-digits}
-use Rattle.datum.specs.Page.{Family, shift, geoid, each}
-use Rattle.line.specs.Decimal.{decimal, printedNumber}
+use Rattle.tables.specs.Page.{Family, shift, geoid, each}
+use Rattle.decimal.specs.Decimal.{decimal, printedNumber}
 use Rattle.line.specs.Line.{space, lineFeed, answerLine}
-use Rattle.line.proofs.Numbers.{unpadded-every}
-use Rattle.line.proofs.Apart.{printed-apart}
+use Rattle.decimal.proofs.Numbers.{unpadded-every}
+use Rattle.decimal.proofs.Apart.{printed-apart}
 
 -- ---- a space and a line feed are below the bytes of a number
 abbrev above : ℕ → Bool

@@ -12,10 +12,10 @@ use Rattle.whole.proofs.Bools.{both}
 use Rattle.whole.proofs.Every.{every-joined, every-weaker}
 use Rattle.position.specs.Text.{isDigit, allDigits, digits}
 use Rattle.position.proofs.Digits.{all-digits}
-use Rattle.datum.specs.Page.{Family, shift, geoid}
-use Rattle.line.specs.Decimal.{decimal, printedNumber}
+use Rattle.tables.specs.Page.{Family, shift, geoid}
+use Rattle.decimal.specs.Decimal.{decimal, printedNumber}
 use Rattle.line.specs.Line.{space, lineFeed, unbroken, answerLine}
-use Rattle.line.proofs.Numbers.{printed-short, unpadded-every}
+use Rattle.decimal.proofs.Numbers.{printed-short, unpadded-every}
 
 -- ---- how long
 pub answer-line-short : (values : Family ℤ) → length (answerLine values) ≤ 36

@@ -9,10 +9,10 @@ use lib.Seq.{take-at}
 use borrow.Rule.Slice.PartMut.{putMid}
 use Rattle.kinds.specs.Answer.{Answer, placed, counted, lent}
 use Rattle.kinds.proofs.Writing.{Written, lent-part, grown}
-use Rattle.datum.specs.Page.{Family, shift, geoid}
-use Rattle.line.specs.Decimal.{printedNumber}
+use Rattle.tables.specs.Page.{Family, shift, geoid}
+use Rattle.decimal.specs.Decimal.{printedNumber}
 use Rattle.line.specs.Line.{space, lineFeed, answerLine}
-use Rattle.line.proofs.Numbers.{printed-short}
+use Rattle.decimal.proofs.Numbers.{printed-short}
 
 -- a number and the byte that follows it
 abbrev pub field : ℤ → ℕ → List ℕ

@@ -1,4 +1,3 @@
-pub mod Decimal
 pub mod Line
 pub mod Form
 pub mod Inside

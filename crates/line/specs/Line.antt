@@ -9,9 +9,10 @@ use Rattle.whole.specs.Every.{every}
 use Rattle.kinds.specs.Answer.{Answer, gives, Test, _else_, inOrder, placed, following}
 use Rattle.kinds.specs.Bytes.{part}
 use Rattle.position.specs.Text.{latitude, longitude, isDigit, digitOf, rightKinds, rightRanges, value}
-use Rattle.datum.specs.Page.{Family, shift, geoid}
-use Rattle.datum.specs.Point.{isCode, pageOf, inArea, worked}
-use Rattle.line.specs.Decimal.{printedNumber}
+use Rattle.tables.specs.Page.{Family, shift, geoid}
+use Rattle.tables.specs.Rule.{inArea, worked}
+use Rattle.datum.specs.Point.{isCode, pageOf}
+use Rattle.decimal.specs.Decimal.{printedNumber}
 
 abbrev pub space : ℕ
 space = 32

@@ -1,8 +1,7 @@
 // One line in, one line out: a point as text, and its shift or geoid height as it is printed.
-mod number;
-
 use datum::PointAnswer;
 use datum::Shifts;
+use decimal::number_and;
 use kinds::Height;
 use kinds::LocalLatitude;
 use kinds::LocalLatitudeAnswer;
@@ -12,13 +11,12 @@ use kinds::Refusal;
 use kinds::WrittenAnswer;
 use kinds::put;
 ghost use mathlib.Core.Path.{_≡_};
-ghost use mathlib.Core.List.{[], _∷_, _++_};
+ghost use mathlib.Core.List.{_++_};
 ghost use Prim.Native.Nat.{_+_, _≤_};
 ghost use lib.ListN.{length, drop};
 ghost use Rattle.kinds.specs.Answer.{numberOf, placed, counted, lent};
 ghost use Rattle.kinds.specs.Cases.{localLongitude, written};
-ghost use Rattle.datum.specs.Cases.{shiftSays, geoidSays};
-ghost use Rattle.line.specs.Decimal.{printedNumber};
+ghost use Rattle.tables.specs.Cases.{shiftSays, geoidSays};
 ghost use Rattle.line.specs.Line.{answerLine, lineOf};
 ghost use Rattle.line.specs.Inside.{placeSays, placeAnswer, readOf, withLongitude, firstRefusal, answeredOf};
 
@@ -148,15 +146,4 @@ fn shift_line(shifts: Shifts, line: &mut [u8]) -> usize
     let second = number_and(shifts.latitude.units(), b' ', line);
     let third = second + number_and(shifts.longitude.units(), b' ', &mut line[second..]);
     third + number_and(shifts.height.mm(), b'\n', &mut line[third..])
-}
-
-// A number and the byte that follows it, at the start of what is lent.
-fn number_and(n: i32, next: u8, line: &mut [u8]) -> usize
-    requires { ⌜ 12 ≤ length (now line) ⌝ }
-    ensures { λ r. ⌜ r ≡ length (printedNumber n) + 1 ⌝ }
-    ensures { λ r. ⌜ now (line .exit) ≡ (printedNumber n ++ next ∷ []) ++ drop r (now (line .entry)) ⌝ }
-{
-    let at = number::signed(n, line);
-    line[at] = next;
-    at + 1
 }

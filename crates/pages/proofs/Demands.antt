@@ -10,9 +10,10 @@ use Rattle.position.specs.Text.{latitude, read}
 use Rattle.position.proofs.Demands as position
 use Rattle.equation.specs.Powers.{power, powersOf}
 use Rattle.equation.specs.Equation.{sum}
-use Rattle.datum.specs.Page.{at, shift, geoid}
-use Rattle.datum.specs.Point.{fromCentre, answerOf}
-use Rattle.datum.specs.Cyprus.{cyprus}
+use Rattle.tables.specs.Page.{at, shift, geoid}
+use Rattle.tables.specs.Cyprus.{cyprus}
+use Rattle.tables.specs.Rule.{fromCentre}
+use Rattle.datum.specs.Point.{answerOf}
 
 pub record Twelve : Type 0 where
   -- the centres of codes 1 to 6

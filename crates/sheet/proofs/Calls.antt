@@ -3,10 +3,12 @@
 use mathlib.Core.Path.{_≡_, refl, sym, ap, _∙_, subst}
 use mathlib.Core.Bool.{Bool, true, false, not}
 use mathlib.Core.List.{List, [], _∷_, _++_, map, flatMap}
-use Prim.Native.Nat.{ℕ, zero, suc, _+_, _-_, _*_, _<_, _≤_}
+use mathlib.Core.Logic.{_⊎_, inl, inr, ⊎-elim}
+use Prim.Native.Nat.{ℕ, _+_, _-_, _*_, _<_, _≤_}
 use native.Mathlib.Omega.{arith}
+use lib.Dec.{leb}
 use lib.IntN.{ℤ}
-use lib.ListN.{length, take, drop, length-append, length-drop, length-map}
+use lib.ListN.{length, take, drop, length-append, length-drop}
 use lib.Seq.{take-all}
 use borrow.Author.Tests.{le-leb, lt-leb, not-true, not-false}
 use mir.Syntax.{w64}
@@ -15,28 +17,21 @@ use Rattle.whole.proofs.Every.{every-same}
 use Rattle.whole.proofs.Words.{of}
 use Rattle.whole.specs.Every.{every}
 use Rattle.whole.specs.Places.{inPlaces}
-use Rattle.kinds.specs.Answer.{gives, refused, Test, inOrder, placed, counted, lent}
-use Rattle.kinds.proofs.Answers.{all-held, held, first-failed, fails, in-two, following-tests}
-use Rattle.sheet.specs.Numbers.{inBytes}
-use Rattle.sheet.specs.Sheet.{serial, datums, codes, count, body, point, points, pieces, rise, isListed, serialTests, countTests, pointTests, said}
+use Rattle.kinds.specs.Answer.{gives, refused, inOrder, placed, counted, lent}
+use Rattle.kinds.proofs.Answers.{failed, own-or-behind, all-held, held, first-or-behind, first-failed, fails, in-two, following-tests}
+use Rattle.numbers.specs.Numbers.{inBytes}
+use Rattle.layout.specs.Sheet.{serial, datums, codes, count, body, point, points, pieces, rise, isListed, serialTests, pointTests, said}
+use Rattle.layout.specs.Layout.{counts, layoutAnswer, laidOut, readOf}
 use Rattle.sheet.specs.Result.{inRecord, answerAt, resultOf, workOf}
-use Rattle.sheet.specs.Inside.{flags, flagOf, allFlagged, worked, records, layoutAnswer, laidOut, readOf, finished}
-use Rattle.sheet.specs.declared.Layout.{Layout}
-use Rattle.sheet.specs.declared.LayoutAnswer.{LayoutAnswer}
+use Rattle.sheet.specs.Inside.{flags, flagOf, allFlagged, worked, records, finished}
+use Rattle.layout.specs.declared.Layout.{Layout}
+use Rattle.layout.specs.declared.LayoutAnswer.{LayoutAnswer}
 use Rattle.sheet.proofs.Codes.{flagged}
-use Rattle.sheet.proofs.Reading.{Laid, codes-are}
+use Rattle.layout.proofs.Form.{points-counted}
+use Rattle.layout.proofs.Reading.{Laid, codes-are, front, in-front}
 use Rattle.sheet.proofs.Results.{records-long}
 
 -- ---- points and their records
-pieces-counted : (n width : ℕ) (bytes : List ℕ) → length (pieces n width bytes) ≡ n
-unfolding pieces
-pieces-counted zero width bytes = refl
-pieces-counted (suc n) width bytes = ap suc (pieces-counted n width (drop width bytes))
-
-pub points-counted : (t : List ℕ) → length (points t) ≡ count t
-unfolding points
-points-counted t = length-map (pieces (count t) 9 (body t)) point ∙ pieces-counted (count t) 9 (body t)
-
 of-points : (ps : List (List ℕ)) → flatMap worked ps ≡ flatMap (λ p. inRecord (answerAt p)) (map point ps)
 unfolding flatMap worked
 of-points [] = refl
@@ -133,16 +128,9 @@ pub read-told : {unit : ℤ} (t : List ℕ) {given case : LayoutAnswer} → SFit
 read-told t fits e same = ap (λ (z : ℤ). readOf z t) (sym (of fits .reads)) ∙ sym e ∙ ap layoutAnswer same
 
 module _ (unit : ℤ) (t : List ℕ) (room : ℕ) where
-  abbrev front : List Test
-  front = serialTests unit t ++ countTests t
-
-  read-front : readOf unit t ≡ inOrder front (gives (record { datums = datums t; points = count t }))
-  unfolding readOf laidOut
-  read-front = sym (in-two (serialTests unit t) (countTests t) (gives (record { datums = datums t; points = count t })))
-
-  work-front : workOf unit t room ≡ inOrder front (finished t room)
+  work-front : workOf unit t room ≡ inOrder (front unit t) (finished t room)
   unfolding finished
-  work-front = following-tests (front ++ pointTests t) (gives (said t)) (λ sheet. placed (resultOf sheet) room) ∙ in-two front (pointTests t) (placed (resultOf (said t)) room)
+  work-front = following-tests (front unit t ++ pointTests t) (gives (said t)) (λ sheet. placed (resultOf sheet) room) ∙ in-two (front unit t) (pointTests t) (placed (resultOf (said t)) room)
 
   -- read, it is laid out, and the work goes on
   pub laid-out : {layout : Layout} → readOf unit t ≡ gives layout → laidOut t ≡ gives layout
@@ -150,8 +138,24 @@ module _ (unit : ℤ) (t : List ℕ) (room : ℕ) where
   laid-out h = all-held (serialTests unit t) (laidOut t) h .1
 
   pub read-on : {layout : Layout} → readOf unit t ≡ gives layout → finished t room ≡ workOf unit t room
-  read-on h = sym (work-front ∙ held front (finished t room) (all-held front (gives (record { datums = datums t; points = count t })) (sym read-front ∙ h) .0))
+  read-on h = sym (work-front ∙ held (front unit t) (finished t room) (all-held (front unit t) (gives (counts t)) (sym (in-front unit t) ∙ h) .0))
 
   -- and a refusal stays
-  pub not-read : {n : ℕ} → readOf unit t ≡ refused n → refused n ≡ workOf unit t room
-  not-read {n} h = sym (work-front ∙ fails front (finished t room) n (first-failed front (record { datums = datums t; points = count t }) n (sym read-front ∙ h)))
+  pub not-read : {n : ℕ} → readOf unit t ≡ refused n → workOf unit t room ≡ refused n
+  not-read {n} h = work-front ∙ fails (front unit t) (finished t room) n (first-failed (front unit t) (counts t) n (sym (in-front unit t) ∙ h))
+
+  -- what is worked was read
+  pub work-read : {result : List ℕ} → workOf unit t room ≡ gives result → readOf unit t ≡ gives (counts t)
+  work-read h = in-front unit t ∙ held (front unit t) (gives (counts t)) (all-held (front unit t) (finished t room) (sym work-front ∙ h) .0)
+
+  -- a refusal after the reading: of a point's code, or for want of room
+  after : (n : ℕ) → finished t room ≡ refused n → (n ≡ 9) ⊎ (n ≡ 7)
+  unfolding finished
+  after n h =
+      let b = every (λ p. isListed (codes t) (p .code)) (points t) in
+      ⊎-elim inl (λ e. inr (failed (leb (length (resultOf (said t))) room) 7 (resultOf (said t)) e .1)) (own-or-behind b 9 n (placed (resultOf (said t)) room) h)
+
+  pub not-worked : (n : ℕ) → workOf unit t room ≡ refused n → (readOf unit t ≡ refused n) ⊎ ((n ≡ 9) ⊎ (n ≡ 7))
+  not-worked n h =
+      ⊎-elim (λ f. inl (in-front unit t ∙ fails (front unit t) (gives (counts t)) n f)) (λ p. inr (after n (p .1)))
+      (first-or-behind (front unit t) (finished t room) n (sym work-front ∙ h))

@@ -2,7 +2,7 @@
 use mathlib.Core.Path.{_≡_, refl, sym, ap, _∙_, subst}
 use mathlib.Core.Bool.{Bool, true, _&&_}
 use mathlib.Core.List.{List, [], _∷_, _++_, map, flatMap}
-use Prim.Native.Nat.{ℕ, zero, suc, _+_, _*_, _<_, _≤_}
+use Prim.Native.Nat.{ℕ, zero, suc, _+_, _*_, _<_}
 use native.Mathlib.Omega.{arith}
 use lib.IntN.{ℤ, pos}
 use lib.ListN.{length, take, drop}
@@ -15,20 +15,18 @@ use Rattle.kinds.specs.Answer.{Answer, gives, refused, refusalOf}
 use Rattle.kinds.specs.Kinds.{isFourBytes}
 use Rattle.kinds.specs.Bytes.{part}
 use Rattle.kinds.proofs.Tested.{of-four-bytes}
-use Rattle.datum.specs.Page.{Family, shift, geoid, isEither, each}
+use Rattle.tables.specs.Page.{Family, shift, geoid, isEither, each}
 use Rattle.datum.specs.Point.{isCode, valuesOf}
 use Rattle.datum.proofs.Demands.{four-bytes}
-use Rattle.sheet.specs.Numbers.{inBytes}
-use Rattle.sheet.specs.Sheet.{Point, serial, datums, codes, count, body, point, points, pieces, rise, isListed, said}
+use Rattle.numbers.specs.Numbers.{inBytes}
+use Rattle.layout.specs.Sheet.{Point, serial, datums, codes, count, body, point, points, pieces, rise, isListed, said}
 use Rattle.sheet.specs.Result.{inRecord, answerAt, resultOf}
 use Rattle.sheet.specs.Places.{pointAt, recordAt, recordRefusal, recordNumbers}
-use Rattle.sheet.specs.Form.{areBytes}
 use Rattle.sheet.specs.Inside.{recordOf, worked, records}
-use Rattle.sheet.proofs.Numbers.{one-read, value-back}
-use Rattle.sheet.proofs.Codes.{listed-six}
+use Rattle.numbers.proofs.Numbers.{one-read, value-back}
+use Rattle.layout.proofs.Codes.{listed-six}
 use Rattle.sheet.proofs.Results.{worked-long}
 use Rattle.sheet.proofs.Calls.{result-is}
-use Rattle.sheet.proofs.Form.{part-back, part-below}
 
 -- ---- the record at a place
 records-at : (n k : ℕ) (body : List ℕ) → k < n → part (k * 13) 13 (records n body) ≡ worked (part (k * 9) 9 body)
@@ -103,13 +101,3 @@ record-says (refused n) fits = says n (pos 0) (pos 0) (pos 0) refl refl refl
 
 pub point-says : (p : Point) → (recordRefusal (inRecord (answerAt p)) ≡ refusalOf (answerAt p)) × (recordNumbers (inRecord (answerAt p)) ≡ valuesOf (pos 0) (answerAt p))
 point-says p = record-says (answerAt p) (λ values h. four-bytes isEither (pos (p .code)) (p .latitude) (pos (p .longitude)) h)
-
--- ---- the serial, of bytes
-module _ (t : List ℕ) (bytes : areBytes t ≡ true) (long : 4 ≤ length t) where
-  pub serial-below : serial t < 4294967296
-  unfolding serial
-  serial-below = part-below 0 4 t long bytes
-
-  pub serial-bytes : inBytes 4 (serial t) ≡ part 0 4 t
-  unfolding serial
-  serial-bytes = part-back 0 4 t long bytes

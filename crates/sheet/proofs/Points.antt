@@ -1,13 +1,12 @@
 -- The points of a sheet's body, one by one as the code goes through them, and their records. Assumes nothing.
 use mathlib.Core.Path.{_≡_, refl, sym, ap, _∙_}
-use mathlib.Core.Bool.{Bool, true, false, not, _&&_}
+use mathlib.Core.Bool.{Bool, true, false, _&&_}
 use mathlib.Core.List.{List, [], _∷_, map, flatMap}
 use Prim.Native.Nat.{ℕ, suc, _+_, _-_, _*_, _<_, _≤_}
 use native.Mathlib.Omega.{arith}
 use lib.IntN.{ℤ, pos}
 use lib.ListN.{length, take, drop, length-drop}
 use lib.Seq.{length-take-le, getD-take, getD-drop, drop-drop}
-use borrow.Author.Tests.{not-true, not-false}
 use mir.Syntax.{w64}
 use mir.Val.{SFits, toZ, ofZ}
 use Rattle.whole.proofs.Words.{of, from-unsigned}
@@ -20,14 +19,14 @@ use Rattle.kinds.specs.declared.Refusal.{Refusal}
 use Rattle.kinds.proofs.Bytes.{at}
 use Rattle.datum.specs.Point.{answerOf}
 use Rattle.datum.specs.Cases.{pointAnswer}
-use Rattle.datum.specs.declared.Shifts.{Shifts}
+use Rattle.tables.specs.declared.Shifts.{Shifts}
 use Rattle.datum.specs.declared.PointAnswer.{PointAnswer}
 use Rattle.datum.specs.declared.PointAnswer.the-variants as Said
-use Rattle.sheet.specs.Numbers.{number, inBytes, complement, signed}
-use Rattle.sheet.specs.Sheet.{point, pieces}
+use Rattle.numbers.specs.Numbers.{number, inBytes, complement, signed}
+use Rattle.layout.specs.Sheet.{point, pieces}
 use Rattle.sheet.specs.Result.{inRecord}
 use Rattle.sheet.specs.Inside.{flagOf, allFlagged, recordOf, worked}
-use Rattle.sheet.proofs.Numbers.{one-read}
+use Rattle.numbers.proofs.Numbers.{one-read}
 
 -- the bytes of the point at i
 piece-long : (n i : ℕ) (body : List ℕ) → i < n → n * 9 ≤ length body → length (take 9 (drop (i * 9) body)) ≡ 9
@@ -101,11 +100,11 @@ module _ (flags : List Bool) (n i : ℕ) (body : List ℕ) where
         ap (λ (k : ℕ). allFlagged flags k (drop (i * 9) body)) a
         ∙ (λ j. flagOf flags (code-is j) && every (λ p. flagOf flags (p .code)) (map point (pieces (n - (i + 1)) 9 ((drop-drop 9 (i * 9) body ∙ ap (λ (k : ℕ). drop k body) b) j))))
 
-    pub flag-missing : not flag ≡ true → false ≡ left
-    flag-missing t = sym (flag-next ∙ ap (λ (b : Bool). b && rest) (not-true flag t))
+    pub flag-missing : false ≡ flag → false ≡ left
+    flag-missing e = ap (λ (b : Bool). b && rest) e ∙ sym flag-next
 
-    pub flag-found : not flag ≡ false → rest ≡ left
-    flag-found t = sym (flag-next ∙ ap (λ (b : Bool). b && rest) (not-false flag t))
+    pub flag-found : true ≡ flag → rest ≡ left
+    flag-found e = ap (λ (b : Bool). b && rest) e ∙ sym flag-next
 
   pub flags-end : n ≤ i → true ≡ left
   unfolding allFlagged pieces

@@ -10,11 +10,11 @@ use borrow.Rule.Slice.PartMut.{putMid}
 use Rattle.whole.specs.Places.{inPlaces}
 use Rattle.kinds.proofs.Bytes.{at}
 use Rattle.kinds.proofs.Writing.{grown}
-use Rattle.sheet.specs.Numbers.{inBytes}
-use Rattle.sheet.specs.Sheet.{pieces}
+use Rattle.numbers.specs.Numbers.{inBytes}
+use Rattle.layout.specs.Sheet.{pieces}
 use Rattle.sheet.specs.Result.{inRecord}
 use Rattle.sheet.specs.Inside.{worked, records}
-use Rattle.sheet.proofs.Numbers.{two-written}
+use Rattle.numbers.proofs.Numbers.{two-written}
 
 -- ---- how long
 pub worked-long : (t : List ℕ) → length (worked t) ≡ 13

@@ -1,39 +1,20 @@
 -- When a sheet is worked, and when each refusal is given. Assumes nothing.
-use mathlib.Core.Path.{_≡_, refl, sym, ap, subst}
-use mathlib.Core.Bool.{true, false, not, _||_, false≢true}
-use mathlib.Core.List.{List, _++_}
+use mathlib.Core.Path.{_≡_, refl, subst}
+use mathlib.Core.Bool.{not, false≢true}
+use mathlib.Core.List.{List}
 use mathlib.Core.Logic.{_↔_, _⊎_, inl, inr, ⊎-elim}
 use Prim.Native.Nat.{ℕ, _+_, _*_, _<_, _≤_}
 use native.Mathlib.Omega.{arith}
 use lib.Dec.{eqb}
-use lib.IntN.{ℤ, pos, negsuc}
+use lib.IntN.{ℤ, pos}
 use lib.ListN.{length}
-use borrow.Author.Tests.{leb-true, le-leb, eqb-true, eqb-false, ne-eqb, not-true}
-use Rattle.whole.proofs.Bools.{either}
-use Rattle.kinds.specs.Answer.{Answer, gives, refused, AllHold, FirstFails, inOrder, placed}
+use Rattle.kinds.specs.Answer.{gives, refused, AllHold, FirstFails, inOrder, placed}
 use Rattle.kinds.proofs.Answers.{first-number, following-tests}
 use Rattle.kinds.proofs.Demands.{written-where, unwritten-where}
-use Rattle.sheet.specs.Sheet.{serial, count, isUnit, countTests, pointTests, tests, said}
+use Rattle.layout.specs.Sheet.{serial, count, tests, said}
+use Rattle.layout.proofs.Demands as reading
 use Rattle.sheet.specs.Result.{resultOf, workOf}
-use Rattle.sheet.proofs.Calls.{result-long}
-
--- ---- the unit's own number
-pub is-unit : (unit : ℤ) (s : ℕ) → isUnit unit s ≡ true → unit ≡ pos s
-unfolding isUnit
-is-unit (pos n) s h = ap pos (sym (eqb-true s n h))
-is-unit (negsuc n) s h = absurd (false≢true h)
-
-not-unit : (unit : ℤ) (s : ℕ) → isUnit unit s ≡ false → unit ≡ pos s → ⊥
-unfolding isUnit
-not-unit (pos n) s h e =
-    let same : n ≡ s = cc in
-    eqb-false s n h (sym same)
-not-unit (negsuc n) s h e = let z : _≡_ {A = ℕ} 0 1 = cc in omega arith
-
-other-unit : (unit : ℤ) (s : ℕ) → (unit ≡ pos s → ⊥) → isUnit unit s ≡ false
-unfolding isUnit
-other-unit (pos n) s h = ne-eqb s n (λ e. h (ap pos (sym e)))
-other-unit (negsuc n) s h = refl
+use Rattle.sheet.proofs.Calls.{result-long, not-read, not-worked}
 
 -- ---- all tests, and then the room
 module _ (unit : ℤ) (t : List ℕ) (room : ℕ) where
@@ -63,22 +44,12 @@ module _ (unit : ℤ) (t : List ℕ) (room : ℕ) where
 
   pub given-one-of : (n : ℕ) → workOf unit t room ≡ refused n → (n ≡ 1) ⊎ ((n ≡ 9) ⊎ ((n ≡ 8) ⊎ (n ≡ 7)))
   given-one-of n h =
-      ⊎-elim
-      (λ f.
-      either (eqb n 1) (eqb n 9 || eqb n 8) (first-number (λ m. eqb m 1 || (eqb m 9 || eqb m 8)) (tests unit t) n refl f) (λ e. inl (eqb-true n 1 e))
-      (λ e. inr (either (eqb n 9) (eqb n 8) e (λ e. inl (eqb-true n 9 e)) (λ e. inr (inl (eqb-true n 8 e))))))
-      (λ p. inr (inr (inr (p .1 .1))))
-      (refused-where n .0 h)
-
-  -- the third test, and no other
-  foreign : FirstFails (tests unit t) 8 → (4 ≤ length t) × ((serial t ≡ 0 → ⊥) × (unit ≡ pos (serial t) → ⊥))
-  foreign (inl f) = absurd (omega (arith, f .1))
-  foreign (inr (long, inl f)) = absurd (omega (arith, f .1))
-  foreign (inr (long, inr (some, inl f))) = (leb-true 4 (length t) long, (eqb-false (serial t) 0 (not-true (eqb (serial t) 0) some), not-unit unit (serial t) (f .0)))
-  foreign (inr (long, inr (some, inr (own, f)))) = absurd (false≢true (first-number (λ m. not (eqb m 8)) (countTests t ++ pointTests t) 8 refl f))
+      ⊎-elim (λ r. ⊎-elim inl (λ e. inr (⊎-elim inl (λ e. inr (inl e)) e)) (reading.given-one-of unit t n r))
+      (λ e. inr (⊎-elim inl (λ e. inr (inr e)) e))
+      (not-worked unit t room n h)
 
   pub given-8 : (workOf unit t room ≡ refused 8) ↔ ((4 ≤ length t) × ((serial t ≡ 0 → ⊥) × (unit ≡ pos (serial t) → ⊥)))
   given-8 = (
-    (λ h. ⊎-elim foreign (λ p. absurd (omega (arith, p .1 .1))) (refused-where 8 .0 h)),
-    (λ h. refused-where 8 .1 (inl (inr (le-leb 4 (length t) (h .0), inr (ap not (ne-eqb (serial t) 0 (h .1 .0)), inl (other-unit unit (serial t) (h .1 .1), refl)))))),
+    (λ h. ⊎-elim (λ r. reading.given-8 unit t .0 r) (⊎-elim (λ e. absurd (omega arith)) (λ e. absurd (omega arith))) (not-worked unit t room 8 h)),
+    (λ h. not-read unit t room (reading.given-8 unit t .1 h)),
   )

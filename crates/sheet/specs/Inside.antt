@@ -6,26 +6,12 @@ use lib.Dec.{leb}
 use lib.IntN.{ℤ}
 use lib.ListN.{getD}
 use Rattle.whole.specs.Every.{every}
-use Rattle.kinds.specs.Answer.{Answer, gives, refused, numberOf, inOrder, placed}
-use Rattle.sheet.specs.Numbers.{inBytes, complement}
-use Rattle.sheet.specs.Sheet.{datums, count, point, points, pieces, pointLength, isListed, serialTests, countTests, pointTests, said}
+use Rattle.kinds.specs.Answer.{Answer, inOrder, placed}
+use Rattle.numbers.specs.Numbers.{inBytes, complement}
+use Rattle.layout.specs.Sheet.{point, pieces, pointLength, isListed, pointTests, said}
 use Rattle.sheet.specs.Result.{inRecord, answerAt, resultOf}
-use Rattle.sheet.specs.declared.Layout.{Layout}
-use Rattle.sheet.specs.declared.LayoutAnswer.{LayoutAnswer}
-use Rattle.sheet.specs.declared.LayoutAnswer.the-variants as Laid
 
--- ---- reading
-abbrev pub layoutAnswer : LayoutAnswer → Answer Layout
-layoutAnswer (Laid.Gives layout) = gives layout
-layoutAnswer (Laid.Refused why) = refused (numberOf why)
-
--- after the serial's tests
-unfoldable pub laidOut : List ℕ → Answer Layout
-laidOut bytes = inOrder (countTests bytes) (gives (record { datums = datums bytes; points = count bytes }))
-
-unfoldable pub readOf : ℤ → List ℕ → Answer Layout
-readOf unit bytes = inOrder (serialTests unit bytes) (laidOut bytes)
-
+-- ---- the points' codes
 -- of n codes, from a code on, whether each is listed
 abbrev pub flagsFrom : ℕ → ℕ → List ℕ → List Bool
 flagsFrom zero code codes = []
@@ -55,6 +41,6 @@ worked bytes = inRecord (answerAt (point bytes))
 unfoldable pub records : ℕ → List ℕ → List ℕ
 records n body = flatMap worked (pieces n pointLength body)
 
--- after the tests of `readOf`
+-- after the tests of crate `layout`
 unfoldable pub finished : List ℕ → ℕ → Answer (List ℕ)
 finished bytes room = inOrder (pointTests bytes) (placed (resultOf (said bytes)) room)

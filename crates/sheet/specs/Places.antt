@@ -3,8 +3,8 @@ use mathlib.Core.List.{List, [], _∷_}
 use Prim.Native.Nat.{ℕ, _+_, _*_}
 use lib.IntN.{ℤ}
 use Rattle.kinds.specs.Bytes.{part}
-use Rattle.sheet.specs.Numbers.{number, signed}
-use Rattle.sheet.specs.Sheet.{Point, datums, point, pointLength}
+use Rattle.numbers.specs.Numbers.{number, signed}
+use Rattle.layout.specs.Sheet.{Point, datums, point, pointLength}
 use Rattle.sheet.specs.Result.{recordLength}
 
 -- the point at a place of a sheet

@@ -4,10 +4,10 @@ use Prim.Native.Nat.{ℕ}
 use lib.IntN.{ℤ, pos}
 use lib.ListN.{length}
 use Rattle.kinds.specs.Answer.{Answer, refusalOf, placed, following}
-use Rattle.datum.specs.Page.{Family}
+use Rattle.tables.specs.Page.{Family}
 use Rattle.datum.specs.Point.{answerOf, valuesOf}
-use Rattle.sheet.specs.Numbers.{inBytes, complement}
-use Rattle.sheet.specs.Sheet.{Point, Sheet, sheetOf}
+use Rattle.numbers.specs.Numbers.{inBytes, complement}
+use Rattle.layout.specs.Sheet.{Point, Sheet, sheetOf}
 
 -- '13 bytes a point'
 abbrev pub recordLength : ℕ

@@ -1,10 +1,10 @@
 // The unit sheet and its result: a sheet made for another unit is refused as such, and what is accepted is worked point by
 // point into a lent buffer.
-mod number;
-
 use datum::PointAnswer;
 use kinds::Refusal;
 use kinds::WrittenAnswer;
+use layout::Layout;
+use layout::LayoutAnswer;
 ghost use mathlib.Core.Path.{_≡_};
 ghost use mathlib.Core.Bool.{true};
 ghost use mathlib.Core.List.{_++_};
@@ -12,10 +12,11 @@ ghost use Prim.Native.Nat.{_+_, _*_, _≤_};
 ghost use lib.ListN.{length, drop};
 ghost use Rattle.kinds.specs.Answer.{gives, counted, lent};
 ghost use Rattle.kinds.specs.Cases.{written};
-ghost use Rattle.sheet.specs.Numbers.{inBytes};
-ghost use Rattle.sheet.specs.Sheet.{pointLength, rise};
+ghost use Rattle.numbers.specs.Numbers.{inBytes};
+ghost use Rattle.layout.specs.Sheet.{pointLength, rise};
+ghost use Rattle.layout.specs.Layout.{laidOut};
 ghost use Rattle.sheet.specs.Result.{recordLength, workOf};
-ghost use Rattle.sheet.specs.Inside.{layoutAnswer, readOf, laidOut, flags, flagOf, allFlagged, recordOf, worked, records, finished};
+ghost use Rattle.sheet.specs.Inside.{flags, allFlagged, recordOf, worked, records, finished};
 
 // Works the sheet of a unit: writes the result to the start of a lent buffer and says how many bytes, 6 and 13 for each point.
 // Refused, in the order of the sheet's bytes: 1 where it is cut or bytes follow, 9 where its serial is zero, a count is over
@@ -26,117 +27,21 @@ pub fn work(unit: i64, sheet: &[u8], result: &mut [u8]) -> WrittenAnswer
     ensures { λ r. ⌜ written r ≡ counted (workOf unit (now (sheet .entry)) (length (now (result .entry)))) ⌝ }
     ensures { λ r. ⌜ now (result .exit) ≡ lent (workOf unit (now (sheet .entry)) (length (now (result .entry)))) (now (result .entry)) ⌝ }
 {
-    match read(unit, sheet) {
+    match layout::read(unit, sheet) {
         LayoutAnswer::Gives(layout) => finished(layout, sheet, result),
         LayoutAnswer::Refused(why) => WrittenAnswer::Refused(why),
     }
 }
 
-// How many datums and points a sheet has, which says where each of its parts is.
-struct Layout {
-    datums: usize,
-    points: usize,
-}
-
-enum LayoutAnswer {
-    Gives(Layout),
-    Refused(Refusal),
-}
-
-// The listed codes: by code, from 0, whether it is listed.
-struct Flags([bool; 7]);
-
-const LAST_CODE: u8 = 6;
-
-// the most that a sheet may have
-const MOST_DATUMS: usize = 6;
-
-const MOST_POINTS: usize = 500;
-
-// in bytes: a serial, a count of points, a point; the start of a result, and a point's record in it
-const SERIAL: usize = 4;
-
-const COUNT: usize = 2;
-
-const POINT: usize = 9;
-
-const START: usize = SERIAL + COUNT;
+// in bytes: the start of a result, and a point's record in it
+const START: usize = layout::SERIAL + layout::COUNT;
 
 const RECORD: usize = 13;
 
-// where the count of datums and the codes are in a sheet
-const DATUMS: usize = SERIAL;
-
-const CODES: usize = DATUMS + 1;
-
-// Tests the serial, and then the rest but for the points' codes.
-fn read(unit: i64, sheet: &[u8]) -> LayoutAnswer
-    ensures { λ r. ⌜ layoutAnswer r ≡ readOf unit (now (sheet .entry)) ⌝ }
-{
-    if sheet.len() < SERIAL {
-        return LayoutAnswer::Refused(Refusal::Length);
-    }
-    let serial = number::four(sheet, 0);
-    if serial == 0 {
-        return LayoutAnswer::Refused(Refusal::Sheet);
-    }
-    if serial as i64 != unit {
-        return LayoutAnswer::Refused(Refusal::Foreign);
-    }
-    laid_out(sheet)
-}
-
-fn laid_out(sheet: &[u8]) -> LayoutAnswer
-    ensures { λ r. ⌜ layoutAnswer r ≡ laidOut (now (sheet .entry)) ⌝ }
-{
-    if sheet.len() < CODES {
-        return LayoutAnswer::Refused(Refusal::Length);
-    }
-    let datums = number::one(sheet, DATUMS) as usize;
-    if MOST_DATUMS < datums {
-        return LayoutAnswer::Refused(Refusal::Sheet);
-    }
-    let count_at = CODES + datums;
-    if sheet.len() < count_at {
-        return LayoutAnswer::Refused(Refusal::Length);
-    }
-    if !rise(&sheet[CODES..count_at]) {
-        return LayoutAnswer::Refused(Refusal::Sheet);
-    }
-    let body = count_at + COUNT;
-    if sheet.len() < body {
-        return LayoutAnswer::Refused(Refusal::Length);
-    }
-    let points = number::two(sheet, count_at);
-    if MOST_POINTS < points {
-        return LayoutAnswer::Refused(Refusal::Sheet);
-    }
-    if sheet.len() != body + points * POINT {
-        return LayoutAnswer::Refused(Refusal::Length);
-    }
-    LayoutAnswer::Gives(Layout { datums, points })
-}
-
-// Whether each code is above the one before, from 1 to 6.
-fn rise(codes: &[u8]) -> bool
-    ensures { λ r. ⌜ r ≡ rise 0 (now (codes .entry)) ⌝ }
-{
-    let mut before = 0;
-    let mut i = 0;
-    while i < codes.len() {
-        let code = codes[i];
-        if !((before < code) & (code <= LAST_CODE)) {
-            return false;
-        }
-        before = code;
-        i += 1;
-    }
-    true
-}
-
-fn listed(codes: &[u8]) -> Flags
+// By code, from 0, whether it is listed.
+fn listed(codes: &[u8]) -> [bool; 7]
     requires { ⌜ rise 0 (now codes) ≡ true ⌝ }
-    ensures { λ r. ⌜ r .0 ≡ flags (now (codes .entry)) ⌝ }
+    ensures { λ r. ⌜ r ≡ flags (now (codes .entry)) ⌝ }
 {
     let mut flags = [false; 7];
     let mut i = 0;
@@ -144,28 +49,21 @@ fn listed(codes: &[u8]) -> Flags
         flags[codes[i] as usize] = true;
         i += 1;
     }
-    Flags(flags)
-}
-
-impl Flags {
-    fn has(self, code: u8) -> bool
-        ensures { λ r. ⌜ r ≡ flagOf (self .0) code ⌝ }
-    {
-        if LAST_CODE < code {
-            return false;
-        }
-        self.0[code as usize]
-    }
+    flags
 }
 
 // Whether every point's code is listed.
-fn all_listed(body: &[u8], points: usize, listed: Flags) -> bool
+fn all_listed(body: &[u8], points: usize, listed: [bool; 7]) -> bool
     requires { ⌜ points * pointLength ≤ length (now body) ⌝ }
-    ensures { λ r. ⌜ r ≡ allFlagged (listed .0) points (now (body .entry)) ⌝ }
+    ensures { λ r. ⌜ r ≡ allFlagged listed points (now (body .entry)) ⌝ }
 {
     let mut i = 0;
     while i < points {
-        if !listed.has(body[i * POINT]) {
+        let code = body[i * layout::POINT];
+        if layout::LAST_CODE < code {
+            return false;
+        }
+        if !listed[code as usize] {
             return false;
         }
         i += 1;
@@ -177,9 +75,9 @@ fn all_listed(body: &[u8], points: usize, listed: Flags) -> bool
 fn in_record(refusal: u8, first: i32, second: i32, third: i32) -> [u8; 13]
     ensures { λ r. ⌜ r ≡ recordOf refusal first second third ⌝ }
 {
-    let a = number::in_four_signed(first);
-    let b = number::in_four_signed(second);
-    let c = number::in_four_signed(third);
+    let a = numbers::in_four_signed(first);
+    let b = numbers::in_four_signed(second);
+    let c = numbers::in_four_signed(third);
     [
         refusal,
         a[0],
@@ -202,9 +100,9 @@ fn worked(point: &[u8]) -> [u8; 13]
     requires { ⌜ length (now point) ≡ pointLength ⌝ }
     ensures { λ r. ⌜ r ≡ worked (now (point .entry)) ⌝ }
 {
-    let latitude = number::signed(number::four(point, 1));
-    let longitude = number::four(point, 5) as i64;
-    match datum::answer(number::one(point, 0) as i64, latitude, longitude) {
+    let latitude = numbers::signed(numbers::four(point, 1));
+    let longitude = numbers::four(point, 5) as i64;
+    match datum::answer(numbers::one(point, 0) as i64, latitude, longitude) {
         PointAnswer::Shift(shifts) => in_record(
             0,
             shifts.latitude.units(),
@@ -224,8 +122,8 @@ fn records(body: &[u8], points: usize, out: &mut [u8])
 {
     let mut i = 0;
     while i < points {
-        let from = i * POINT;
-        let record = worked(&body[from..from + POINT]);
+        let from = i * layout::POINT;
+        let record = worked(&body[from..from + layout::POINT]);
         let to = i * RECORD;
         bytes::copy(&record, &mut out[to..]);
         i += 1;
@@ -239,7 +137,7 @@ fn put(serial: u32, body: &[u8], points: usize, result: &mut [u8])
     requires { ⌜ 6 + points * recordLength ≤ length (now result) ⌝ }
     ensures { λ _. ⌜ now (result .exit) ≡ inBytes 4 serial ++ inBytes 2 points ++ records points (now (body .entry)) ++ drop (6 + points * recordLength) (now (result .entry)) ⌝ }
 {
-    let s = number::in_four(serial);
+    let s = numbers::in_four(serial);
     let head = [
         s[0],
         s[1],
@@ -260,15 +158,15 @@ fn finished(layout: Layout, sheet: &[u8], result: &mut [u8]) -> WrittenAnswer
 {
     let points = layout.points;
     let bytes = START + points * RECORD;
-    let count_at = CODES + layout.datums;
-    let body = &sheet[count_at + COUNT..];
-    let all = all_listed(body, points, listed(&sheet[CODES..count_at]));
+    let count_at = layout::CODES + layout.datums;
+    let body = &sheet[count_at + layout::COUNT..];
+    let all = all_listed(body, points, listed(&sheet[layout::CODES..count_at]));
     if !all {
         return WrittenAnswer::Refused(Refusal::Sheet);
     }
     if result.len() < bytes {
         return WrittenAnswer::Refused(Refusal::Room);
     }
-    put(number::four(sheet, 0), body, points, result);
+    put(numbers::four(sheet, 0), body, points, result);
     WrittenAnswer::Gives(bytes)
 }

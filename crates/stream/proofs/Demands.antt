@@ -14,7 +14,7 @@ use Rattle.kinds.specs.Answer.{gives, refused}
 use Rattle.position.specs.Text.{digitOf, allDigits, number, digits, isAngle, inSixties, angle}
 use Rattle.equation.specs.Powers.{power, powersOf}
 use Rattle.equation.specs.Equation.{sum}
-use Rattle.line.specs.Decimal.{unpadded, decimal, printedNumber}
+use Rattle.decimal.specs.Decimal.{unpadded, decimal, printedNumber}
 use Rattle.line.specs.Line.{lineFeed, answerLine, lineOf, unbroken}
 use Rattle.stream.specs.Stream.{refusedLine, printed, terminated, ended, begunAfter, last, lines, output, held, kept, takenOf, answers, closing, fed}
 use Rattle.stream.proofs.Lines as law

@@ -14,7 +14,7 @@ use Rattle.whole.proofs.Bools.{by-test}
 use Rattle.kinds.specs.Answer.{Answer, gives, refused, placed, following, counted, lent}
 use Rattle.kinds.proofs.Answers.{not-both, same-value, first-failed, first-number}
 use Rattle.position.specs.Text.{byteOf}
-use Rattle.datum.specs.Page.{Family}
+use Rattle.tables.specs.Page.{Family}
 use Rattle.line.specs.Line.{lineFeed, answerLine, tests, pointOf, lineOf, unbroken}
 use Rattle.line.proofs.Printing.{answer-line-short, answer-line-ends}
 use Rattle.stream.specs.Stream.{refusedLine, said, printed, ended, begunAfter, held, kept, answers}

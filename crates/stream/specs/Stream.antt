@@ -7,7 +7,7 @@ use lib.IntN.{ℤ}
 use lib.ListN.{length, take, replicate}
 use Rattle.kinds.specs.Answer.{Answer, gives, refused}
 use Rattle.position.specs.Text.{byteOf}
-use Rattle.datum.specs.Page.{Family}
+use Rattle.tables.specs.Page.{Family}
 use Rattle.line.specs.Line.{space, lineFeed, answerLine, pointOf}
 use Rattle.stream.specs.declared.Begun.{Begun}
 

@@ -1,8 +1,9 @@
 -- `datum::answer` meets its contract. Assumes nothing.
 use mathlib.Core.Path.{sym, ap, _∙_}
-use Rattle.datum.specs.Page.{isEither}
+use Rattle.tables.specs.Page.{isEither}
+use Rattle.tables.specs.Inside.{shiftPage, geoidPage}
 use Rattle.datum.specs.Cases.{shiftAnswer, geoidAnswer}
-use Rattle.datum.specs.Inside.{datumPage, shiftPage, geoidPage}
+use Rattle.datum.specs.Inside.{datumPage}
 use Rattle.datum.proofs.Calls.{found, there, shift-answer, geoid-answer, none}
 use borrow.Author.Needs.{needs}
 use Rattle.datum.proofs.answer.Statement.{statement}
@@ -14,8 +15,8 @@ of-requires c κs = search needs
 enum-known-datum : tie.Need-enum-known-datum
 enum-known-datum c = search needs
 
-at-requires : tie.Need-at-requires
-at-requires c κs = search needs
+shift-at-requires : tie.Need-shift-at-requires
+shift-at-requires c κs = search needs
 
 enum-known-shifts : tie.Need-enum-known-shifts
 enum-known-shifts c = search needs
@@ -26,8 +27,8 @@ enum-known-why c = search needs
 enum-known-datum-2 : tie.Need-enum-known-datum-2
 enum-known-datum-2 c = search needs
 
-at-requires-2 : tie.Need-at-requires-2
-at-requires-2 c κs = search needs
+geoid-at-requires : tie.Need-geoid-at-requires
+geoid-at-requires c κs = search needs
 
 enum-known-height : tie.Need-enum-known-height
 enum-known-height c = search needs
@@ -44,7 +45,7 @@ returns c =
     let s = o .before in
     let d = c .before .before .before .before .before .datum .given in
     ap shiftAnswer (sym (c .before .shifts .given .1))
-    ∙ there (shiftPage (d .0 .0)) (s .fits .latitude) (s .fits .longitude) (c .before .before .before .at .ensures)
+    ∙ there (shiftPage (d .0 .0)) (s .fits .latitude) (s .fits .longitude) (c .before .before .before .shift-at .ensures)
     ∙ shift-answer (s .args .code) (s .args .latitude) (s .args .longitude) (d .0 .0) (found (s .fits .code) (o .of .ensures) (ap datumPage (d .1)))
 
 returns-2 : tie.Need-returns-2
@@ -53,7 +54,7 @@ returns-2 c =
     let s = o .before in
     let d = c .before .before .before .before .before .datum .given in
     ap shiftAnswer (sym (c .before .why .given .1))
-    ∙ there (shiftPage (d .0 .0)) (s .fits .latitude) (s .fits .longitude) (c .before .before .before .at .ensures)
+    ∙ there (shiftPage (d .0 .0)) (s .fits .latitude) (s .fits .longitude) (c .before .before .before .shift-at .ensures)
     ∙ shift-answer (s .args .code) (s .args .latitude) (s .args .longitude) (d .0 .0) (found (s .fits .code) (o .of .ensures) (ap datumPage (d .1)))
 
 returns-3 : tie.Need-returns-3
@@ -62,7 +63,7 @@ returns-3 c =
     let s = o .before in
     let d = c .before .before .before .before .before .datum2 .given in
     ap geoidAnswer (sym (c .before .height .given .1))
-    ∙ there (geoidPage (d .0 .0)) (s .fits .latitude) (s .fits .longitude) (c .before .before .before .at2 .ensures)
+    ∙ there (geoidPage (d .0 .0)) (s .fits .latitude) (s .fits .longitude) (c .before .before .before .geoid-at .ensures)
     ∙ geoid-answer (s .args .code) (s .args .latitude) (s .args .longitude) (d .0 .0) (found (s .fits .code) (o .of .ensures) (ap datumPage (d .1)))
 
 returns-4 : tie.Need-returns-4
@@ -71,7 +72,7 @@ returns-4 c =
     let s = o .before in
     let d = c .before .before .before .before .before .datum2 .given in
     ap geoidAnswer (sym (c .before .why2 .given .1))
-    ∙ there (geoidPage (d .0 .0)) (s .fits .latitude) (s .fits .longitude) (c .before .before .before .at2 .ensures)
+    ∙ there (geoidPage (d .0 .0)) (s .fits .latitude) (s .fits .longitude) (c .before .before .before .geoid-at .ensures)
     ∙ geoid-answer (s .args .code) (s .args .latitude) (s .args .longitude) (d .0 .0) (found (s .fits .code) (o .of .ensures) (ap datumPage (d .1)))
 
 returns-5 : tie.Need-returns-5
@@ -86,11 +87,11 @@ answer-spec =
     (tie.spec
     of-requires
     enum-known-datum
-    at-requires
+    shift-at-requires
     enum-known-shifts
     enum-known-why
     enum-known-datum-2
-    at-requires-2
+    geoid-at-requires
     enum-known-height
     enum-known-why-2
     enum-told

@@ -1,7 +1,8 @@
 -- `datum::geoid` meets its contract. Assumes nothing.
 use mathlib.Core.Path.{ap, _∙_}
-use Rattle.datum.specs.Page.{isGeoid}
-use Rattle.datum.specs.Inside.{datumPage, geoidPage}
+use Rattle.tables.specs.Page.{isGeoid}
+use Rattle.tables.specs.Inside.{geoidPage}
+use Rattle.datum.specs.Inside.{datumPage}
 use Rattle.datum.proofs.Calls.{found, there, geoid-geoid, shift-geoid, none}
 use borrow.Author.Needs.{needs}
 use Rattle.datum.proofs.geoid.Statement.{statement}
@@ -16,8 +17,8 @@ enum-told c = search needs
 enum-known-datum : tie.Need-enum-known-datum
 enum-known-datum c = search needs
 
-at-requires : tie.Need-at-requires
-at-requires c κs = search needs
+geoid-at-requires : tie.Need-geoid-at-requires
+geoid-at-requires c κs = search needs
 
 enum-told-2 : tie.Need-enum-told-2
 enum-told-2 c = search needs
@@ -34,7 +35,7 @@ returns-2 c =
     let o = c .before .before .before .before in
     let s = o .before in
     let d = c .before .before .datum .given in
-    there (geoidPage (d .0 .0)) (s .fits .latitude) (s .fits .longitude) (c .at .ensures)
+    there (geoidPage (d .0 .0)) (s .fits .latitude) (s .fits .longitude) (c .geoid-at .ensures)
     ∙ geoid-geoid (s .args .code) (s .args .latitude) (s .args .longitude) (d .0 .0) (found (s .fits .code) (o .of .ensures) (ap datumPage (d .1)))
 
 returns-3 : tie.Need-returns-3
@@ -50,7 +51,7 @@ geoid-spec =
     of-requires
     enum-told
     enum-known-datum
-    at-requires
+    geoid-at-requires
     enum-told-2
     returns
     returns-2

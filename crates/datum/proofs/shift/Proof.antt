@@ -1,7 +1,8 @@
 -- `datum::shift` meets its contract. Assumes nothing.
 use mathlib.Core.Path.{ap, _∙_}
-use Rattle.datum.specs.Page.{isShift}
-use Rattle.datum.specs.Inside.{datumPage, shiftPage}
+use Rattle.tables.specs.Page.{isShift}
+use Rattle.tables.specs.Inside.{shiftPage}
+use Rattle.datum.specs.Inside.{datumPage}
 use Rattle.datum.proofs.Calls.{found, there, shift-shift, geoid-shift, none}
 use borrow.Author.Needs.{needs}
 use Rattle.datum.proofs.shift.Statement.{statement}
@@ -13,8 +14,8 @@ of-requires c κs = search needs
 enum-known-datum : tie.Need-enum-known-datum
 enum-known-datum c = search needs
 
-at-requires : tie.Need-at-requires
-at-requires c κs = search needs
+shift-at-requires : tie.Need-shift-at-requires
+shift-at-requires c κs = search needs
 
 enum-told : tie.Need-enum-told
 enum-told c = search needs
@@ -27,7 +28,7 @@ returns c =
     let o = c .before .before .before .before in
     let s = o .before in
     let d = c .before .before .datum .given in
-    there (shiftPage (d .0 .0)) (s .fits .latitude) (s .fits .longitude) (c .at .ensures)
+    there (shiftPage (d .0 .0)) (s .fits .latitude) (s .fits .longitude) (c .shift-at .ensures)
     ∙ shift-shift (s .args .code) (s .args .latitude) (s .args .longitude) (d .0 .0) (found (s .fits .code) (o .of .ensures) (ap datumPage (d .1)))
 
 returns-2 : tie.Need-returns-2
@@ -49,7 +50,7 @@ shift-spec =
     (tie.spec
     of-requires
     enum-known-datum
-    at-requires
+    shift-at-requires
     enum-told
     enum-told-2
     returns

@@ -1,7 +1,7 @@
 -- `floating::floating` meets its contract. Assumes nothing.
 use mathlib.Core.Path.{ap, _∙_}
 use Rattle.kinds.specs.Answer.{gives, refused}
-use Rattle.datum.specs.Page.{geoid}
+use Rattle.tables.specs.Page.{geoid}
 use Rattle.datum.specs.Point.{answerOf}
 use Rattle.datum.specs.Cases.{pointAnswer}
 use Rattle.floating.specs.Floats.{answerInFloats}

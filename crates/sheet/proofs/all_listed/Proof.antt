@@ -1,40 +1,51 @@
 -- `sheet::all_listed` meets its contract. Assumes nothing.
 use mathlib.Core.Path.{_≡_, sym, ap, _∙_}
-use mathlib.Core.Bool.{not}
 use Prim.Native.Nat.{ℕ, _-_, _*_, _≤_}
 use native.Mathlib.Omega.{arith}
 use lib.ListN.{drop}
 use borrow.Author.Needs.{needs}
+use borrow.Author.Tests.{not-true, not-false}
 use Rattle.sheet.specs.Inside.{allFlagged}
+use Rattle.sheet.proofs.Codes.{flag-high, flag-low}
 use Rattle.sheet.proofs.Points.{flag-missing, flag-found, flags-end}
 use Rattle.sheet.proofs.all_listed.Statement.{statement}
 use Rattle.sheet.proofs.all_listed.Tie as tie
 
 abbrev Inv-loop : tie.InvT-loop
-Inv-loop body points listed i₀ i = (i ≤ points) × (allFlagged (listed .0) (points - i) (drop (i * 9) body) ≡ allFlagged (listed .0) points body)
+Inv-loop body points listed i₀ i = (i ≤ points) × (allFlagged listed (points - i) (drop (i * 9) body) ≡ allFlagged listed points body)
 
 abbrev μ-loop : tie.MeasureT-loop
 μ-loop body points listed i₀ i = points - i
 
 loop-holds : tie.Need-loop-holds Inv-loop μ-loop
 loop-holds c =
-    let same : c .before .args .points - 0 ≡ c .before .args .points = omega arith in
-    (omega arith, ap (λ (n : ℕ). allFlagged (c .before .args .listed .0) n (c .before .args .body .now)) same)
+    let same : c .args .points - 0 ≡ c .args .points = omega arith in
+    (omega arith, ap (λ (n : ℕ). allFlagged (c .args .t3) n (c .args .body .now)) same)
 
-mul-has : tie.Need-mul-has Inv-loop μ-loop
-mul-has c = search needs
+mul-code : tie.Need-mul-code Inv-loop μ-loop
+mul-code c = search needs
 
-shared-slice-read-has : tie.Need-shared-slice-read-has Inv-loop μ-loop
-shared-slice-read-has c = search needs
-
-has-requires : tie.Need-has-requires Inv-loop μ-loop
-has-requires c κs = search needs
+shared-slice-read-code : tie.Need-shared-slice-read-code Inv-loop μ-loop
+shared-slice-read-code c = search needs
 
 returns : tie.Need-returns Inv-loop μ-loop
 returns c =
+    let loop = c .before .before .before .loop in
+    let s = c .before .before .before .before in
+    flag-missing (s .args .t3) (s .args .points) (loop .i) (s .args .body .now) (c .before .before .loop-test .taken) (s .pre) (flag-high _ _ (c .if1 .taken))
+    ∙ loop .inv .1
+
+cast-if2 : tie.Need-cast-if2 Inv-loop μ-loop
+cast-if2 c = search needs
+
+array-read-if2 : tie.Need-array-read-if2 Inv-loop μ-loop
+array-read-if2 c = search needs
+
+returns-2 : tie.Need-returns-2 Inv-loop μ-loop
+returns-2 c =
     let loop = c .before .before .before .before .loop in
-    let s = c .before .before .before .before .before .before in
-    flag-missing (s .args .listed .0) (s .args .points) (loop .i) (s .args .body .now) (c .before .before .before .loop-test .taken) (s .pre) (ap not (sym (c .before .has .ensures)) ∙ c .if1 .taken)
+    let s = c .before .before .before .before .before in
+    flag-missing (s .args .t3) (s .args .points) (loop .i) (s .args .body .now) (c .before .before .before .loop-test .taken) (s .pre) (sym (not-true _ (c .if2 .taken)) ∙ flag-low _ _ (c .before .if1 .left))
     ∙ loop .inv .1
 
 add-i : tie.Need-add-i Inv-loop μ-loop
@@ -46,18 +57,18 @@ loop-less c = search needs
 loop-again : tie.Need-loop-again Inv-loop μ-loop
 loop-again c =
     let loop = c .before .before .before .before .loop in
-    let s = c .before .before .before .before .before .before in
+    let s = c .before .before .before .before .before in
     let test = c .before .before .before .loop-test .taken in (
       omega (arith, test),
-      flag-found (s .args .listed .0) (s .args .points) (loop .i) (s .args .body .now) test (s .pre) (ap not (sym (c .before .has .ensures)) ∙ c .if1 .left)
+      flag-found (s .args .t3) (s .args .points) (loop .i) (s .args .body .now) test (s .pre) (sym (not-false _ (c .if2 .left)) ∙ flag-low _ _ (c .before .if1 .left))
           ∙ loop .inv .1,
     )
 
-returns-2 : tie.Need-returns-2 Inv-loop μ-loop
-returns-2 c =
+returns-3 : tie.Need-returns-3 Inv-loop μ-loop
+returns-3 c =
     let loop = c .before .loop in
-    let s = c .before .before .before in
-    flags-end (s .args .listed .0) (s .args .points) (loop .i) (s .args .body .now) (c .loop-test .left) ∙ loop .inv .1
+    let s = c .before .before in
+    flags-end (s .args .t3) (s .args .points) (loop .i) (s .args .body .now) (c .loop-test .left) ∙ loop .inv .1
 
 pub all-listed-spec : {M : Type 1} → statement M
 all-listed-spec =
@@ -66,11 +77,13 @@ all-listed-spec =
     Inv-loop
     μ-loop
     loop-holds
-    mul-has
-    shared-slice-read-has
-    has-requires
+    mul-code
+    shared-slice-read-code
     returns
+    cast-if2
+    array-read-if2
+    returns-2
     add-i
     loop-less
     loop-again
-    returns-2)
+    returns-3)

@@ -1,6 +1,6 @@
 -- `sheet::finished` meets its contract. Assumes nothing.
 use borrow.Author.Needs.{needs}
-use Rattle.sheet.proofs.Reading.{serial-is, laid}
+use Rattle.layout.proofs.Reading.{serial-is, laid}
 use Rattle.sheet.proofs.Calls.{codes-end, body-start, five-more, seven-more, records-fit, result-fits, at-most, serial-there, codes-lent, body-lent, unlisted, no-room, all-written}
 use Rattle.sheet.proofs.finished.Statement.{statement}
 use Rattle.sheet.proofs.finished.Tie as tie

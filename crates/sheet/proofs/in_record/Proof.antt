@@ -5,7 +5,7 @@ use Prim.Native.Nat.{ℕ}
 use lib.IntN.{ℤ}
 use borrow.Author.Needs.{needs}
 use Rattle.whole.proofs.Words.{of}
-use Rattle.sheet.specs.Numbers.{inBytes, complement}
+use Rattle.numbers.specs.Numbers.{inBytes, complement}
 use Rattle.sheet.proofs.Points.{record-is}
 use Rattle.sheet.proofs.in_record.Statement.{statement}
 use Rattle.sheet.proofs.in_record.Tie as tie

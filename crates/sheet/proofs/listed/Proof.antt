@@ -8,7 +8,8 @@ use lib.ListN.{length, getD, set, take}
 use lib.Seq.{take-all}
 use borrow.Author.Needs.{needs}
 use Rattle.sheet.specs.Inside as inside
-use Rattle.sheet.proofs.Codes.{six, none-flagged, flag-next}
+use Rattle.layout.proofs.Codes.{six}
+use Rattle.sheet.proofs.Codes.{none-flagged, flag-next}
 use Rattle.sheet.proofs.listed.Statement.{statement}
 use Rattle.sheet.proofs.listed.Tie as tie
 

@@ -1,5 +1,5 @@
 -- `sheet::work` meets its contract. Assumes nothing.
-use mathlib.Core.Path.{ap, _∙_}
+use mathlib.Core.Path.{sym, ap, _∙_}
 use mathlib.Core.List.{List}
 use Prim.Native.Nat.{ℕ}
 use lib.ListN.{length}
@@ -36,7 +36,7 @@ returns c =
 returns-2 : tie.Need-returns-2
 returns-2 c =
     let s = c .before .before .before .before .before .before in
-    let stays = not-read (s .args .unit) (s .args .sheet .now) (length (s .args .result .now)) (read-told _ (s .fits .unit) (c .before .before .before .read .ensures) (c .before .why .given .1)) in
+    let stays = sym (not-read (s .args .unit) (s .args .sheet .now) (length (s .args .result .now)) (read-told _ (s .fits .unit) (c .before .before .before .read .ensures) (c .before .why .given .1))) in
     (ap counted stays, ap (λ (w : Answer (List ℕ)). lent w (s .args .result .now)) stays)
 
 pub work-spec : {M : Type 1} → statement M

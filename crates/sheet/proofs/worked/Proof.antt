@@ -8,7 +8,7 @@ use borrow.Author.Needs.{needs}
 use mir.Syntax.{w32}
 use mir.Val.{hbits, toZ, ofZ}
 use Rattle.whole.proofs.Words.{of, small}
-use Rattle.sheet.specs.Numbers.{signed}
+use Rattle.numbers.specs.Numbers.{signed}
 use Rattle.sheet.specs.Inside.{recordOf}
 use Rattle.sheet.proofs.Points.{shift-record, geoid-record, refused-record, worked-is}
 use Rattle.sheet.proofs.worked.Statement.{statement}

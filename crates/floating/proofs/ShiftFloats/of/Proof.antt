@@ -1,5 +1,5 @@
 -- `floating::ShiftFloats::of` meets its contract. Assumes nothing.
-use Rattle.datum.specs.Page.{shift}
+use Rattle.tables.specs.Page.{shift}
 use borrow.Author.Needs.{needs}
 use Rattle.floating.proofs.ShiftFloats.of.Statement.{statement}
 use Rattle.floating.proofs.ShiftFloats.of.Tie as tie

@@ -1,0 +1,93 @@
+-- `datum::shift_at` meets its contract. Assumes nothing.
+use mathlib.Core.Path.{_≡_, sym, ap, _∙_, subst}
+use mir.Syntax.{w64}
+use mir.Val.{SFits}
+use Rattle.whole.proofs.Words.{of}
+use Rattle.kinds.specs.Answer.{gives}
+use Rattle.tables.specs.Page.{Page}
+use Rattle.tables.specs.Inside.{shiftPage, frameOf, Close}
+use Rattle.tables.proofs.Limits.{close, shift-keeps}
+use Rattle.datum.specs.Inside.{placeOf, placeAnswer}
+use Rattle.datum.specs.declared.Place.{Place}
+use Rattle.datum.proofs.Points.{not-placed, x-asks, y-asks, work-asks, answered}
+use borrow.Author.Needs.{needs}
+use Rattle.datum.proofs.shift_at.Statement.{statement}
+use Rattle.datum.proofs.shift_at.Tie as tie
+
+frame-requires : tie.Need-frame-requires
+frame-requires c κs = search needs
+
+placed-requires : tie.Need-placed-requires
+placed-requires c κs = subst Close (sym (c .frame .ensures)) (close (shiftPage (c .before .args .datum)) (shift-keeps (c .before .args .datum)))
+
+enum-known-place : tie.Need-enum-known-place
+enum-known-place c = search needs
+
+-- what `placed` answered, of the datum's page
+module _ (c : tie.After-placed) where
+  abbrev s : tie.Start
+  s = c .before .before
+
+  abbrev page : Page
+  page = shiftPage (s .args .datum)
+
+  said : placeAnswer (c .placed .result) ≡ placeOf (frameOf page) (s .args .latitude) (s .args .longitude)
+  said = c .placed .ensures ∙ (λ i. placeOf (c .before .frame .ensures i) (of (s .fits .latitude) .reads i) (of (s .fits .longitude) .reads i))
+
+-- the place that it gave
+module _ (c : tie.After-struct-told) where
+  abbrev p : tie.After-placed
+  p = c .before .before .before .before
+
+  abbrev place : Place
+  place = c .before .before .place .given .0 .0
+
+  placed : placeOf (frameOf (page p)) (s p .args .latitude) (s p .args .longitude) ≡ gives (place .u, place .v)
+  placed = sym (said p) ∙ ap placeAnswer (c .before .before .place .given .1)
+
+  u-fits : SFits w64 (place .u)
+  u-fits = record { sfits = c .struct-told .given .0 .1 }
+
+  v-fits : SFits w64 (place .v)
+  v-fits = record { sfits = c .struct-told .given .1 .0 .1 }
+
+powers-requires : tie.Need-powers-requires
+powers-requires c κs = x-asks (page (p c)) (s (p c) .args .latitude) (s (p c) .args .longitude) (placed c) (shift-keeps (s (p c) .args .datum)) (u-fits c) (v-fits c)
+
+powers-requires-2 : tie.Need-powers-requires-2
+powers-requires-2 c κs =
+    let t = c .before .before in
+    y-asks (page (p t)) (s (p t) .args .latitude) (s (p t) .args .longitude) (placed t) (shift-keeps (s (p t) .args .datum)) (u-fits t) (v-fits t)
+
+evaluated-requires : tie.Need-evaluated-requires
+evaluated-requires c κs =
+    let t = c .before .before .before in
+    work-asks (page (p t)) (s (p t) .args .latitude) (s (p t) .args .longitude) (placed t) (shift-keeps (s (p t) .args .datum)) (u-fits t) (v-fits t) (c .before .before .powers .ensures) (c .powers2 .ensures)
+
+enum-known-why : tie.Need-enum-known-why
+enum-known-why c = search needs
+
+returns : tie.Need-returns
+returns c =
+    let w = c .before in
+    let t = w .before .before .before in
+    answered (page (p t)) (s (p t) .args .latitude) (s (p t) .args .longitude) (placed t) (shift-keeps (s (p t) .args .datum)) (u-fits t) (v-fits t) (w .before .before .powers .ensures) (w .powers2 .ensures) (c .evaluated .ensures)
+
+returns-2 : tie.Need-returns-2
+returns-2 c =
+    let q = c .before .before .before in
+    not-placed (page q) (s q .args .latitude) (s q .args .longitude) (sym (said q) ∙ ap placeAnswer (c .before .why .given .1))
+
+pub shift-at-spec : {M : Type 1} → statement M
+shift-at-spec =
+    tie.close
+    (tie.spec
+    frame-requires
+    placed-requires
+    enum-known-place
+    powers-requires
+    powers-requires-2
+    evaluated-requires
+    enum-known-why
+    returns
+    returns-2)

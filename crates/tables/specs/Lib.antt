@@ -1,0 +1,11 @@
+pub mod Page
+pub mod Cyprus
+pub mod Minna
+pub mod Alaska
+pub mod Qatar
+pub mod Kandawala
+pub mod Nahrwan
+pub mod Rule
+pub mod Tables
+pub mod Cases
+pub mod Inside

@@ -1,0 +1,54 @@
+-- Document 01, 'The six areas': the six pages, how many terms the equations have, how the tables stand, and where the areas end.
+use mathlib.Core.Bool.{Bool, true, not, _&&_, _||_}
+use mathlib.Core.List.{List, [], _∷_, Perm}
+use Prim.Native.Nat.{ℕ, _+_, _-_}
+use lib.Dec.{eqb, ltb}
+use lib.IntN.{pos}
+use lib.ListN.{length}
+use Rattle.equation.specs.Equation.{Term, term, amongTen}
+use Rattle.tables.specs.Page.{Page, Family, shift, geoid, ofEach, Paired}
+use Rattle.tables.specs.Rule.{inArea}
+use Rattle.tables.specs.Cyprus.{cyprus}
+use Rattle.tables.specs.Minna.{minna}
+use Rattle.tables.specs.Alaska.{alaska}
+use Rattle.tables.specs.Qatar.{qatar}
+use Rattle.tables.specs.Kandawala.{kandawala}
+use Rattle.tables.specs.Nahrwan.{nahrwan}
+
+-- in the order of their codes
+abbrev pub pages : List Page
+pages = cyprus ∷ minna ∷ alaska ∷ qatar ∷ kandawala ∷ nahrwan ∷ []
+
+-- the terms of each equation, with the constant
+abbrev pub counted : Family (List Term) → Family ℕ
+counted = ofEach length
+
+abbrev pub inAll : List Page → ℕ
+inAll [] = 0
+inAll (page ∷ rest) = total (counted (page .equations)) + inAll rest
+  where
+    total : Family ℕ → ℕ
+    total (shift a b c) = a + b + c
+    total (geoid n) = n
+
+-- by rising power of longitude, then of latitude; each power is below ten
+abbrev pub before : Term → Term → Bool
+before (term c i j) (term d k l) = ltb j l || (eqb j l && ltb i k)
+
+abbrev pub stands : List Term → Bool
+stands [] = true
+stands (t ∷ []) = amongTen t
+stands (s ∷ t ∷ ts) = amongTen s && (before s t && stands (t ∷ ts))
+
+-- the same terms in another order
+abbrev pub Reordered : Family (List Term) → Family (List Term) → Type 0
+Reordered = Paired Perm
+
+-- two corners of the area are in it, and what is 1 ms outside an end is not
+abbrev pub ends : Page → Bool
+ends page =
+    inArea page (pos (page .south)) (pos (page .west)) && inArea page (pos (page .north)) (pos (page .east))
+    && not (inArea page (pos (page .south - 1)) (pos (page .west)))
+    && not (inArea page (pos (page .north + 1)) (pos (page .east)))
+    && not (inArea page (pos (page .south)) (pos (page .west - 1)))
+    && not (inArea page (pos (page .north)) (pos (page .east + 1)))
