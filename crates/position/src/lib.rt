@@ -7,14 +7,18 @@ use kinds::LocalLongitudeAnswer;
 use kinds::Refusal;
 use kinds::WrittenAnswer;
 use kinds::put;
+use numbers::four;
 ghost use mathlib.Core.Path.{_≡_};
-ghost use mathlib.Core.Bool.{true};
+ghost use mathlib.Core.Bool.{true, not, cond};
 ghost use Prim.Native.Nat.{_+_, _%_, _<_, _≤_};
+ghost use lib.Dec.{eqb};
+ghost use lib.IntN.{pos, negℤ};
 ghost use lib.ListN.{length};
-ghost use Rattle.kinds.specs.Answer.{counted, lent};
-ghost use Rattle.kinds.specs.Bytes.{part};
+ghost use Rattle.kinds.specs.Answer.{provided, numberOf, counted, lent};
 ghost use Rattle.kinds.specs.Cases.{localLatitude, localLongitude, written};
-ghost use Rattle.position.specs.Text.{latitude, longitude, isDigit, digitOf, allDigits, number, isAngle, inSixties, angle, signed, read, spelled, write};
+ghost use Rattle.kinds.specs.Kinds.{isLatitude, tested};
+ghost use Rattle.position.specs.Inside.{figures, inPairs, saysAngle};
+ghost use Rattle.position.specs.Text.{latitude, longitude, isDigit, digitOf, number, degrees, isAngle, inSixties, angle, read, spelled, write};
 
 // Reads the 11 bytes `ddmmss.sssN` or `S` into ms, north positive: `900000.000N` is 324000000. Refused: 1 another length, 2 a
 // byte that is not of its kind, 3 minutes or seconds from 60 up, past 90°, or S after zero.
@@ -25,17 +29,17 @@ pub fn read_latitude(text: &[u8]) -> LocalLatitudeAnswer
         return LocalLatitudeAnswer::Refused(Refusal::Length);
     }
     let letter = text[10];
-    if !(is_angle(text) & ((letter == b'N') | (letter == b'S'))) {
+    if !((letter == b'N') | (letter == b'S')) {
         return LocalLatitudeAnswer::Refused(Refusal::Kind);
     }
-    if !in_sixties(text) {
-        return LocalLatitudeAnswer::Refused(Refusal::Range);
+    let ms = read_angle(text);
+    if WRONG_KIND <= ms {
+        return LocalLatitudeAnswer::Refused(why(ms));
     }
-    let ms = angle(text);
-    if (letter == b'S') & (ms == 0) {
-        return LocalLatitudeAnswer::Refused(Refusal::Range);
+    if letter == b'S' {
+        return southern(ms);
     }
-    LocalLatitude::new(signed(letter, ms))
+    LocalLatitude::new(ms as i64)
 }
 
 // Reads the 12 bytes `dddmmss.sssE` into ms, east positive: `0330000.000E` is 118800000. Refused: 1 another length, 2 a byte
@@ -48,14 +52,14 @@ pub fn read_longitude(text: &[u8]) -> LocalLongitudeAnswer
     }
     let hundreds = text[0];
     let letter = text[11];
-    let rest = &text[1..];
-    if !(is_digit(hundreds) & is_angle(rest) & (letter == b'E')) {
+    if !(is_digit(hundreds) & (letter == b'E')) {
         return LocalLongitudeAnswer::Refused(Refusal::Kind);
     }
-    if !in_sixties(rest) {
-        return LocalLongitudeAnswer::Refused(Refusal::Range);
+    let ms = read_angle(&text[1..]);
+    if WRONG_KIND <= ms {
+        return LocalLongitudeAnswer::Refused(why(ms));
     }
-    LocalLongitude::new((digit(hundreds) * HUNDRED_DEGREES + angle(rest)) as i64)
+    LocalLongitude::new((digit(hundreds) * HUNDRED_DEGREES + ms) as i64)
 }
 
 // Writes a latitude in ms to the first 11 bytes of out: -1 is `000000.001S`. Refused: 3 past 90°, 7 out is shorter.
@@ -100,6 +104,21 @@ const DEGREE: u64 = LocalLatitude::DEGREE as u64;
 
 const HUNDRED_DEGREES: u64 = 100 * DEGREE;
 
+// what `read_angle` answers where it refuses: no bytes say so many ms
+const WRONG_KIND: u64 = 1_000_000_002;
+
+const WRONG_RANGE: u64 = 1_000_000_003;
+
+// the bits of `figures` that are none where its bytes are digits and a point
+const NO_FIGURE: u64 = 0xF0F0_F0F0_FFF0_F0F0;
+
+// where they stand in the word of `pairs`
+const MINUTES: u64 = 281_474_976_710_656;
+
+const SECONDS: u64 = 4_294_967_296;
+
+const TENTHS: u64 = 65_536;
+
 fn is_digit(b: u8) -> bool
     ensures { λ r. ⌜ r ≡ isDigit b ⌝ }
 {
@@ -115,42 +134,69 @@ fn digit(b: u8) -> u64
     b as u64 - b'0' as u64
 }
 
-// Two digits at a place of t: whether they are, and what they say.
-fn is_pair(t: &[u8], at: usize) -> bool
-    requires { ⌜ at + 2 ≤ length (now t) ⌝ }
-    ensures { λ r. ⌜ r ≡ allDigits (part at 2 (now (t .entry))) ⌝ }
+// Of the 11 bytes of a latitude's form: the ms that those before the letter say, or why they say none. One number, since an
+// enum would go through memory.
+fn read_angle(t: &[u8]) -> u64
+    requires { ⌜ length (now t) ≡ 11 ⌝ }
+    ensures { λ r. ⌜ saysAngle r (now (t .entry)) ⌝ }
 {
-    is_digit(t[at]) & is_digit(t[at + 1])
+    if !is_angle(t) {
+        return WRONG_KIND;
+    }
+    if !in_sixties(t) {
+        return WRONG_RANGE;
+    }
+    angle(t)
 }
 
-fn pair(t: &[u8], at: usize) -> u64
-    requires { ⌜ at + 2 ≤ length (now t) ⌝ }
-    requires { ⌜ allDigits (part at 2 (now t)) ≡ true ⌝ }
-    ensures { λ r. ⌜ r ≡ number (part at 2 (now (t .entry))) ⌝ }
-    ensures { λ r. ⌜ r < 100 ⌝ }
-{
-    digit(t[at]) * 10 + digit(t[at + 1])
-}
-
-// Of the 11 bytes of a latitude's form: those before the letter are digits and a point.
+// They are digits and a point. A digit is 0x30 to 0x39, so what `figures` leaves of it is below 16, and still is with 6 more;
+// of the point it leaves nothing.
 fn is_angle(t: &[u8]) -> bool
     requires { ⌜ length (now t) ≡ 11 ⌝ }
     ensures { λ r. ⌜ r ≡ isAngle latitude (now (t .entry)) ⌝ }
 {
-    is_pair(t, 0)
-        & is_pair(t, 2)
-        & is_pair(t, 4)
-        & (t[6] == b'.')
-        & (is_digit(t[7]) & is_pair(t, 8))
+    let word = figures(t);
+    if word & NO_FIGURE != 0 {
+        return false;
+    }
+    ((word + 0x0606_0606_0006_0606) & NO_FIGURE == 0) & (is_digit(t[0]) & is_digit(t[1]))
 }
 
-// Minutes and seconds are below 60.
+// The eight bytes `mmss.sss` in one word, less the bits of `0000.000`.
+fn figures(t: &[u8]) -> u64
+    requires { ⌜ length (now t) ≡ 11 ⌝ }
+    ensures { λ r. ⌜ r ≡ figures (now (t .entry)) ⌝ }
+{
+    (four(t, 2) as u64 * 4_294_967_296 + four(t, 6) as u64) ^ 0x3030_3030_2E30_3030
+}
+
+// What they say: to each byte ten times the byte before it is added, so that every other byte says two digits.
+fn pairs(t: &[u8]) -> u64
+    requires { ⌜ length (now t) ≡ 11 ⌝ }
+    requires { ⌜ isAngle latitude (now t) ≡ true ⌝ }
+    ensures { λ r. ⌜ inPairs r (now (t .entry)) ⌝ }
+{
+    let word = figures(t);
+    word / 256 * 10 + word
+}
+
+fn degrees(t: &[u8]) -> u64
+    requires { ⌜ length (now t) ≡ 11 ⌝ }
+    requires { ⌜ isAngle latitude (now t) ≡ true ⌝ }
+    ensures { λ r. ⌜ r ≡ number (degrees latitude (now (t .entry))) ⌝ }
+    ensures { λ r. ⌜ r < 100 ⌝ }
+{
+    digit(t[0]) * 10 + digit(t[1])
+}
+
+// Minutes and seconds are below 60: their tens are below 16 with 10 more. The last 1 makes the sum one of all eight bytes; a
+// compiler that finds it to be of three reads these apart.
 fn in_sixties(t: &[u8]) -> bool
     requires { ⌜ length (now t) ≡ 11 ⌝ }
     requires { ⌜ isAngle latitude (now t) ≡ true ⌝ }
     ensures { λ r. ⌜ r ≡ inSixties latitude (now (t .entry)) ⌝ }
 {
-    (pair(t, 2) < 60) & (pair(t, 4) < 60)
+    (figures(t) + 0x0A00_0A00_0000_0001) & 0x1000_1000_0000_0000 == 0
 }
 
 // The ms that they say.
@@ -160,22 +206,33 @@ fn angle(t: &[u8]) -> u64
     ensures { λ r. ⌜ r ≡ angle latitude (now (t .entry)) ⌝ }
     ensures { λ r. ⌜ r < 400_000_000 ⌝ }
 {
-    pair(t, 0) * DEGREE
-        + pair(t, 2) * MINUTE
-        + pair(t, 4) * SECOND
-        + (digit(t[7]) * 100 + pair(t, 8))
+    let word = pairs(t);
+    degrees(t) * DEGREE
+        + word / MINUTES % 256 * MINUTE
+        + word / SECONDS % 256 * SECOND
+        + (word / TENTHS % 256 * 100 + word % 256)
 }
 
-// S is below zero.
-fn signed(letter: u8, ms: u64) -> i64
-    requires { ⌜ ms < 400_000_000 ⌝ }
-    ensures { λ r. ⌜ r ≡ signed letter ms ⌝ }
+// The refusal of an angle that `read_angle` refused.
+fn why(n: u64) -> Refusal
+    ensures { λ r. ⌜ numberOf r ≡ cond (eqb n 1_000_000_002) 2 3 ⌝ }
 {
-    if letter == b'S' {
-        -(ms as i64)
+    if n == WRONG_KIND {
+        Refusal::Kind
     } else {
-        ms as i64
+        Refusal::Range
     }
+}
+
+// S is below zero, and not zero.
+fn southern(ms: u64) -> LocalLatitudeAnswer
+    requires { ⌜ ms < 1_000_000_000 ⌝ }
+    ensures { λ r. ⌜ localLatitude r ≡ provided (not (eqb ms 0)) 3 (tested (isLatitude (negℤ (pos ms))) (negℤ (pos ms))) ⌝ }
+{
+    if ms == 0 {
+        return LocalLatitudeAnswer::Refused(Refusal::Range);
+    }
+    LocalLatitude::new(-(ms as i64))
 }
 
 // The last digit of n, as a byte.

@@ -1,22 +1,27 @@
 -- `position::in_sixties` meets its contract. Assumes nothing.
+use Prim.Native.Nat.{ℕ, _<_}
+use native.Mathlib.Omega.{arith}
 use borrow.Author.Needs.{needs}
-use Rattle.position.specs.Text.{inSixties}
-use Rattle.position.proofs.Bytes.{Figures, figures}
+use Rattle.kinds.proofs.Bytes.{at}
+use Rattle.position.proofs.OneWord.{tens-fit, sixties}
 use Rattle.position.proofs.in_sixties.Statement.{statement}
 use Rattle.position.proofs.in_sixties.Tie as tie
 
-figures-of : (c : tie.Start) → Figures (c .args .t .now)
-figures-of c = figures (c .args .t .now) (c .pre .0) (c .pre .1)
+known : (c : tie.After-figures) → (i : ℕ) → at (c .before .before .args .t .now) i < 256
+known c i = omega (arith, c .before .shared-slice-known .given i)
 
-pair-requires : tie.Need-pair-requires
-pair-requires c κs = search (needs, figures-of (c .before) .minutes)
+figures-requires : tie.Need-figures-requires
+figures-requires c κs = search needs
 
-pair-requires-2 : tie.Need-pair-requires-2
-pair-requires-2 c κs = search (needs, figures-of (c .before .before) .seconds)
+add-result : tie.Need-add-result
+add-result c =
+    let s = c .before .before in
+    omega (arith, c .figures .ensures, tens-fit (s .args .t .now) (s .pre .0) (known c) (s .pre .1))
 
 returns : tie.Need-returns
-unfolding inSixties
-returns c = simp (c .pair2 .ensures .0, c .before .pair .ensures .0)
+returns c =
+    let s = c .before .before in
+    simp (c .figures .ensures) (sixties (s .args .t .now) (s .pre .0) (known c) (s .pre .1))
 
 pub in-sixties-spec : {M : Type 1} → statement M
-in-sixties-spec = tie.close (tie.spec pair-requires pair-requires-2 returns)
+in-sixties-spec = tie.close (tie.spec figures-requires add-result returns)

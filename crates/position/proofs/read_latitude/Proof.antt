@@ -1,15 +1,22 @@
 -- `position::read_latitude` meets its contract: each return answers what the tests before it leave. Assumes nothing.
-use mathlib.Core.Path.{_≡_, refl, sym, ap, _∙_}
-use mathlib.Core.Bool.{true}
+use mathlib.Core.Path.{_≡_, refl, ap, _∙_}
+use mathlib.Core.Bool.{true, not}
+use mathlib.Core.List.{List}
+use Prim.Native.Nat.{ℕ, _<_, _^_}
+use native.Mathlib.Omega.{arith}
 use borrow.Author.Needs.{needs}
 use borrow.Author.Tests.{not-true, not-false}
-use lib.IntN.{ℤ}
+use lib.Dec.{eqb}
+use lib.IntN.{ℤ, pos, negℤ}
+use lib.ListN.{length}
 use mir.Syntax.{w64}
+use mir.Val.{hbits}
+use Rattle.kinds.specs.Answer.{refused, provided}
 use Rattle.kinds.specs.Kinds.{isLatitude, tested}
-use Rattle.whole.proofs.Bools.{both}
-use Rattle.whole.proofs.Words.{of}
-use Rattle.position.specs.Text.{latitude, isAngle, angle}
-use Rattle.position.proofs.Reading.{wrong-length, wrong-kind, wrong-range, constructed}
+use Rattle.whole.proofs.Bools.{joined}
+use Rattle.whole.proofs.Words.{from-unsigned}
+use Rattle.position.specs.Text.{latitude, letter, isLetter, isAngle, inSixties, angle}
+use Rattle.position.proofs.Reading.{two-fail, wrong-length, wrong-kind, south, not-south, refused-angle, Said, said}
 use Rattle.position.proofs.read_latitude.Statement.{statement}
 use Rattle.position.proofs.read_latitude.Tie as tie
 
@@ -19,47 +26,65 @@ returns c = wrong-length latitude _ (c .if1 .taken)
 shared-slice-read-letter : tie.Need-shared-slice-read-letter
 shared-slice-read-letter c = search needs
 
-is-angle-requires : tie.Need-is-angle-requires
-is-angle-requires c κs = search needs
-
 returns-2 : tie.Need-returns-2
-returns-2 c = wrong-kind latitude _ (c .before .before .before .if1 .left) (c .before .is-angle .ensures) (c .if2 .taken)
+returns-2 c =
+    let e = c .before .before in
+    let t = e .before .before .args .text .now in
+    let l = isLetter latitude (letter latitude t) in
+    wrong-kind latitude t (e .if1 .left) (two-fail true (isAngle latitude t) l (not-true l (c .if2 .taken)))
 
--- past the test of kinds
-right-angle : (c : tie.Else2) → isAngle latitude (c .before .before .before .before .before .args .text .now) ≡ true
-right-angle c = sym (c .before .is-angle .ensures) ∙ both _ _ (not-false _ (c .if2 .left)) .0
+read-angle-requires : tie.Need-read-angle-requires
+read-angle-requires c κs = search needs
 
-in-sixties-requires : tie.Need-in-sixties-requires
-in-sixties-requires c κs = search (needs, right-angle c)
+-- the text, past the test of its letter
+module _ (c : tie.After-read-angle) where
+  abbrev t : List ℕ
+  t = c .before .before .before .before .before .args .text .now
+
+  long : length t ≡ 11
+  long = c .before .before .before .if1 .left
+
+  lettered : isLetter latitude (letter latitude t) ≡ true
+  lettered = not-false _ (c .before .if2 .left)
+
+why-requires : tie.Need-why-requires
+why-requires c κs = search needs
 
 returns-3 : tie.Need-returns-3
 returns-3 c =
-    let b = c .before .before in
-    wrong-range latitude _ (b .before .before .before .if1 .left) (b .before .is-angle .ensures) (b .if2 .left) {m = angle latitude _} refl (c .before .in-sixties .ensures) (simp (not-true (c .before .in-sixties .result) (c .if3 .taken)))
+    let r = c .before .before in
+    ap refused (c .why .ensures)
+    ∙ refused-angle latitude (t r) (isAngle latitude (t r)) (inSixties latitude (t r)) (angle latitude (t r)) (long r) (lettered r) refl refl (r .read-angle .ensures) (c .before .if3 .taken)
 
-angle-requires : tie.Need-angle-requires
-angle-requires c κs = search (needs, right-angle (c .before .before))
+-- past the test of what was read
+right : (c : tie.Else3) → Said (isAngle latitude (t (c .before))) (inSixties latitude (t (c .before))) (angle latitude (t (c .before))) (c .before .read-angle .result)
+right c = said (isAngle latitude (t (c .before))) (inSixties latitude (t (c .before))) (angle latitude (t (c .before))) (c .before .read-angle .ensures) (c .if3 .left)
+
+southern-requires : tie.Need-southern-requires
+southern-requires c κs = right (c .before) .small
 
 returns-4 : tie.Need-returns-4
 returns-4 c =
-    let s = c .before .before in
-    let b = s .before .before in
-    wrong-range latitude _ (b .before .before .before .if1 .left) (b .before .is-angle .ensures) (b .if2 .left) (c .before .angle .ensures .0) (s .before .in-sixties .ensures) (simp (not-false (s .before .in-sixties .result) (s .if3 .left), c .if4 .taken))
+    let e = c .before .before in
+    let r = e .before in
+    c .southern .ensures
+    ∙ ap (λ (m : ℕ). provided (not (eqb m 0)) 3 (tested (isLatitude (negℤ (pos m))) (negℤ (pos m)))) (right e .ms)
+    ∙ south latitude (t r) (long r) (joined (right e .kinds) (lettered r)) (right e .sixties) (c .before .if4 .taken)
 
-signed-requires : tie.Need-signed-requires
-signed-requires c κs = search needs
+cast-new : tie.Need-cast-new
+cast-new c = search (needs, right (c .before) .small)
 
 new-requires : tie.Need-new-requires
 new-requires c κs = search needs
 
 returns-5 : tie.Need-returns-5
 returns-5 c =
-    let r = c .before .before in
-    let s = r .before .before in
-    let b = s .before .before in
+    let e = c .before .before in
+    let r = e .before in
+    let small : r .read-angle .result < 2 ^ hbits w64 = omega (arith, right e .small) in
     c .new .ensures
-    ∙ ap (λ (x : ℤ). tested (isLatitude x) x) (of {w = w64} (record { sfits = c .before .signed .ok }) .reads ∙ c .before .signed .ensures)
-    ∙ constructed latitude _ (b .before .before .before .if1 .left) (b .before .is-angle .ensures) (b .if2 .left) (r .before .angle .ensures .0) (s .before .in-sixties .ensures) (simp (not-false (s .before .in-sixties .result) (s .if3 .left), r .if4 .left))
+    ∙ ap (λ (x : ℤ). tested (isLatitude x) x) (from-unsigned {w = w64} small .reads ∙ ap pos (right e .ms))
+    ∙ not-south latitude (t r) (long r) (joined (right e .kinds) (lettered r)) (right e .sixties) (c .before .if4 .left)
 
 pub read-latitude-spec : {M : Type 1} → statement M
 read-latitude-spec =
@@ -67,12 +92,12 @@ read-latitude-spec =
     (tie.spec
     returns
     shared-slice-read-letter
-    is-angle-requires
     returns-2
-    in-sixties-requires
+    read-angle-requires
+    why-requires
     returns-3
-    angle-requires
+    southern-requires
     returns-4
-    signed-requires
+    cast-new
     new-requires
     returns-5)
