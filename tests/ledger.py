@@ -1,12 +1,15 @@
 #!/usr/bin/env python3
-"""docs/LEDGER.md names what is there: each definition, function, theorem and must-fail edit that it cites exists; each theorem
-of a Demands.antt and each must-fail edit is cited, in its column, in a cell that names its crate; and no cell is empty."""
+"""docs/LEDGER.md names what is there: each definition, function, theorem and must-fail edit that it cites exists, and what stands
+before a place in brackets, a file or a folder of antt or a crate of edits, exists there; each theorem of a Demands.antt and each
+must-fail edit is so cited, in its column, with its own crate; and no cell is empty."""
 import glob
 import os
 import re
 import sys
 
 COLUMNS = ['promise', 'definition', 'function', 'theorem', 'must-fail edits', 'run']
+# names, each with a word on it or none, and where they are
+PLACED = r'((?:`[^`]+`(?:: [^`,;()]*)?(?:, )?)+) \(([\w/]+)\)'
 
 
 def declared(pattern, expression):
@@ -18,6 +21,7 @@ def declared(pattern, expression):
 
 
 NAME = r'^ *(?:(?:unfoldable|abbrev|pub|record|data) )*(\S+) (?:[({][^(){}]*[)}] )*:'
+CRATES = os.listdir('crates')
 there = {
     'definition': declared('crates/*/specs/**/*.antt', NAME),
     'function': declared('crates/*/src/**/*.rt', r'\bfn (\w+)'),
@@ -31,6 +35,14 @@ for path in glob.glob('crates/*/proofs/Demands.antt'):
     # a theorem stands by itself, or in a module with what it is about; what stands in a record is a part of one
     found = [re.findall(r'^ +pub (\S+) :' if b.startswith('module') else r'^pub (?!record)(\S+) :', b, re.M) for b in blocks]
     to_cite |= {('theorem', path.split('/')[1], name) for names in found for name in names}
+
+
+def at(place):
+    """What is declared where a cell says, in a file or a folder of antt; the edits of a crate."""
+    if place in CRATES:
+        return {os.path.basename(p)[:-len('.edit')] for p in glob.glob(f'crates/{place}/must-fail/*.edit')}
+    return declared(f'crates/{place}.antt', NAME) | declared(f'crates/{place}/**/*.antt', NAME)
+
 
 wrong, cited, rows, section = [], set(), 0, ''
 with open('docs/LEDGER.md', encoding='utf-8') as f:
@@ -48,10 +60,16 @@ for number, line in enumerate(lines, 1):
     if not all(cells):
         wrong.append(f'docs/LEDGER.md:{number}: an empty cell under {section}')
     for column, cell in zip(COLUMNS, cells):
-        for name in re.findall(r'`([^`]+)`', cell) if column in there else []:
-            cited |= {(column, crate, name) for crate in re.findall(r'\w+', cell)}
-            if name not in there[column]:
-                wrong.append(f'docs/LEDGER.md:{number}: there is no {column} `{name}`')
+        if column not in there:
+            continue
+        wrong += [f'docs/LEDGER.md:{number}: there is no {column} `{name}`' for name in re.findall(r'`([^`]+)`', cell) if name not in there[column]]
+        wrong += [f'docs/LEDGER.md:{number}: nothing is looked up at ({place})' for place in re.findall(r'\(([^()]*/[^()]*)\)', cell) if not at(place)]
+        for names, place in re.findall(PLACED, cell):
+            found = at(place)
+            for name in re.findall('`([^`]+)`', names):
+                cited.add((column, place.split('/')[0], name))
+                if name not in found:
+                    wrong.append(f'docs/LEDGER.md:{number}: no `{name}` in {place}')
 wrong += [f'docs/LEDGER.md: does not cite {crate}\'s {kind} `{name}`' for kind, crate, name in sorted(to_cite - cited)]
 print('\n'.join(wrong) or f'ledger: {rows} rows, all that they cite is there, and no cell is empty')
 sys.exit(1 if wrong else 0)

@@ -1,16 +1,18 @@
 #!/usr/bin/env python3
-"""How long the program `lines` takes, beside the same in plain C: python3 tests/speed.py, where rt check lines has been run and
-x86_64-linux-gnu-gcc is there with a static C library.
+"""How long the program `lines` takes, beside the same in plain C: python3 tests/speed.py [LINES], where rt check lines has been
+run and x86_64-linux-gnu-gcc is there with a static C library.
 
-Both programs are x86-64 and read the same file of 1,000,000 lines that are answered, of the six codes in turn, at places
-spread over each area. They run in turn, once unmeasured and then as often as RUNS says. Prints how many lines each answers in
-a second, and how many times as long `lines` takes, by the clock and by the processor's time: medians of the runs. No time is
-held to a limit: it ends with an error where the two outputs differ, on these lines or on those that tests/lines.py makes for
-the program, or where a program cannot be built or run. tests/speed.c is the program in C, and tests/plain.py writes its tables.
+Both programs are x86-64 and read the same file of 1,000,000 lines, or of as many as the command line says, that are answered,
+of the six codes in turn, at places spread over each area. They run in turn, once unmeasured and then as often as RUNS says.
+Prints how many lines each answers in a second, and how many times as long `lines` takes, by the clock and by the processor's
+time: medians of the runs. No time is held to a limit: it ends with an error where the two outputs differ, on these lines or on
+those that tests/lines.py makes for the program, or where a program cannot be built or run. tests/speed.c is the program in C,
+and tests/plain.py writes its tables.
 """
 import os
 import random
 import subprocess
+import sys
 import tempfile
 import time
 from statistics import median
@@ -20,7 +22,7 @@ import plain
 import program
 from lines import at, given
 
-LINES = 1_000_000
+LINES = max(1, int(sys.argv[1])) if len(sys.argv) > 1 else 1_000_000
 RUNS = 7
 SEED = 1989
 
