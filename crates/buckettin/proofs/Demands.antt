@@ -1,15 +1,17 @@
 -- What document 01 asks of what C calls. Stated over specs/ alone. Assumes nothing.
 use mathlib.Core.Path.{_≡_, refl, sym, ap, _∙_}
-use mathlib.Core.Bool.{Bool}
+use mathlib.Core.Bool.{Bool, true, not}
 use mathlib.Core.List.{List, [], _∷_, _++_, flatMap}
 use Prim.Native.Nat.{ℕ, _≤_}
 use lib.Dec.{lit<}
 use lib.IntN.{ℤ, pos, negℤ}
 use lib.Ieee.{Float}
 use lib.ListN.{length, take, drop}
+use borrow.Author.Tests.{not-false}
 use Rattle.whole.specs.Round.{scale, roundDiv}
 use Rattle.whole.specs.Places.{fromPlaces, inPlaces}
 use Rattle.kinds.specs.Answer.{Answer, gives, refused, refusalOf, counted, lent}
+use Rattle.kinds.specs.Kinds.{within}
 use Rattle.kinds.proofs.Answers.{told, is, is-or}
 use Rattle.position.specs.Text.{Coordinate, latitude, longitude, textLength, isAngle, inSixties, angle, allDigits, number, digitOf, spelled, digits, read, write}
 use Rattle.position.proofs.Demands as position
@@ -17,11 +19,12 @@ use Rattle.equation.specs.Powers.{power, powersOf}
 use Rattle.equation.specs.Equation.{Term, sum, equationOf}
 use Rattle.equation.specs.Exact.{Within}
 use Rattle.tables.specs.Page.{Family, shift, geoid, isShift, isGeoid, isEither, OfShift, OfGeoid}
-use Rattle.tables.specs.Rule.{powersU, powersV}
+use Rattle.tables.specs.Rule.{inArea, powersU, powersV}
 use Rattle.datum.specs.Point.{pageOf, asked, shiftOf, geoidOf, answerOf, firstOf, secondOf, thirdOf}
 use Rattle.datum.specs.Exact.{exact}
+use Rattle.datum.proofs.Codes.{not-shift, not-geoid}
 use Rattle.datum.proofs.Demands as datum
-use Rattle.floating.specs.Floats.{seconds, metres, floatingOf, zero, answerInFloats}
+use Rattle.floating.specs.Floats.{seconds, metres, floatingOf, floatZero, answerInFloats}
 use Rattle.floating.proofs.Demands as floating
 use Rattle.numbers.specs.Numbers as bytes
 use Rattle.numbers.specs.Numbers.{inBytes}
@@ -90,16 +93,31 @@ module _ (code latitude longitude : ℤ) where
   pub geoid-near : heightInC .refusal ≡ 0 → OfGeoid (exact (pageOf code) latitude longitude) (λ n. Within 1 1 n (heightInC .n))
   geoid-near h = datum.geoid-near isGeoid code latitude longitude (heightInC .n) (geoid-told h)
 
+  -- of each point in its area
+  pub shift-in-area : within (pos 1) (pos 4) code ≡ true → inArea (pageOf code) latitude longitude ≡ true
+      → (inC .refusal ≡ 0) × OfShift (exact (pageOf code) latitude longitude) (λ dLat dLon dH. Within 2 1 dLat (inC .dlat) × Within 2 1 dLon (inC .dlon) × Within 1 1 dH (inC .dh))
+  shift-in-area h inside =
+      let p = not-geoid code .1 h in
+      let none = ap refusalOf (datum.in-its-area isShift code latitude longitude (p .0) (not-false _ (p .1)) inside .0) in
+      (none, shift-near none)
+
+  pub geoid-in-area : within (pos 5) (pos 6) code ≡ true → inArea (pageOf code) latitude longitude ≡ true
+      → (heightInC .refusal ≡ 0) × OfGeoid (exact (pageOf code) latitude longitude) (λ n. Within 1 1 n (heightInC .n))
+  geoid-in-area h inside =
+      let p = not-shift code .1 h in
+      let none = ap refusalOf (datum.in-its-area isGeoid code latitude longitude (p .0) (ap not (p .1)) inside .0) in
+      (none, geoid-near none)
+
   -- the floats are these numbers divided, and the fourth call gives 0 beside them
   abbrev Floats : Float → Float → Float → Type 0
   Floats x y z =
-      (firstOf zero (floatingOf code latitude longitude) ≡ x) × (secondOf zero (floatingOf code latitude longitude) ≡ y)
-      × (thirdOf zero (floatingOf code latitude longitude) ≡ z) × (refusalOf (floatingOf code latitude longitude) ≡ 0)
+      (firstOf floatZero (floatingOf code latitude longitude) ≡ x) × (secondOf floatZero (floatingOf code latitude longitude) ≡ y)
+      × (thirdOf floatZero (floatingOf code latitude longitude) ≡ z) × (refusalOf (floatingOf code latitude longitude) ≡ 0)
 
   pub shift-floats : inC .refusal ≡ 0 → Floats (seconds (inC .dlat)) (seconds (inC .dlon)) (metres (inC .dh))
   shift-floats h = floating.of-shift code latitude longitude _ _ _ (ap answerInFloats (family-answer isShift _ (shift-told h)))
 
-  pub geoid-floats : heightInC .refusal ≡ 0 → Floats (metres (heightInC .n)) zero zero
+  pub geoid-floats : heightInC .refusal ≡ 0 → Floats (metres (heightInC .n)) floatZero floatZero
   geoid-floats h = floating.of-geoid code latitude longitude _ (ap answerInFloats (family-answer isGeoid _ (geoid-told h)))
 
 -- bytes were written, and are counted

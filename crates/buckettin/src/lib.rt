@@ -13,7 +13,7 @@ ghost use Rattle.kinds.specs.Answer.{numberOf, refusalOf, counted, lent};
 ghost use Rattle.kinds.specs.Cases.{written};
 ghost use Rattle.position.specs.Text.{latitude, longitude, read, write};
 ghost use Rattle.datum.specs.Point.{shiftOf, geoidOf, firstOf, secondOf, thirdOf};
-ghost use Rattle.floating.specs.Floats.{floatingOf, zero};
+ghost use Rattle.floating.specs.Floats.{floatingOf, floatZero};
 ghost use Rattle.sheet.specs.Result.{workOf};
 ghost use Rattle.line.specs.Line.{lineOf};
 ghost use Rattle.buckettin.specs.Fields.{valueOr, shiftFields, geoidFields, readFields, writtenFields};
@@ -108,21 +108,21 @@ pub extern "C" fn buckettin_geoid(code: i64, latitude_ms: i64, longitude_ms: i64
 
 #[no_mangle]
 pub extern "C" fn buckettin_first(code: i64, latitude_ms: i64, longitude_ms: i64) -> f64
-    ensures { λ r. ⌜ r ≡ firstOf zero (floatingOf code «latitude_ms» «longitude_ms») ⌝ }
+    ensures { λ r. ⌜ r ≡ firstOf floatZero (floatingOf code «latitude_ms» «longitude_ms») ⌝ }
 {
     floating::first(code, latitude_ms, longitude_ms)
 }
 
 #[no_mangle]
 pub extern "C" fn buckettin_second(code: i64, latitude_ms: i64, longitude_ms: i64) -> f64
-    ensures { λ r. ⌜ r ≡ secondOf zero (floatingOf code «latitude_ms» «longitude_ms») ⌝ }
+    ensures { λ r. ⌜ r ≡ secondOf floatZero (floatingOf code «latitude_ms» «longitude_ms») ⌝ }
 {
     floating::second(code, latitude_ms, longitude_ms)
 }
 
 #[no_mangle]
 pub extern "C" fn buckettin_third(code: i64, latitude_ms: i64, longitude_ms: i64) -> f64
-    ensures { λ r. ⌜ r ≡ thirdOf zero (floatingOf code «latitude_ms» «longitude_ms») ⌝ }
+    ensures { λ r. ⌜ r ≡ thirdOf floatZero (floatingOf code «latitude_ms» «longitude_ms») ⌝ }
 {
     floating::third(code, latitude_ms, longitude_ms)
 }

@@ -2,21 +2,26 @@
 use mathlib.Core.Path.{_≡_, refl, sym, ap, _∙_}
 use mathlib.Core.Bool.{Bool, true, false, false≢true}
 use mathlib.Core.Logic.{_↔_}
-use Prim.Native.Nat.{ℕ, zero, suc, _≤_}
+use Prim.Native.Nat.{ℕ, zero, suc, _≤_, _<_}
 use native.Mathlib.Omega.{arith}
-use lib.Dec.{T, lit<, lit≤}
+use lib.Dec.{T, lit<}
 use lib.IntN.{ℤ, pos, negsuc}
 use lib.Signed.{leZ}
-use borrow.Author.Tests.{leb-true, le-leb}
+use borrow.Author.Tests.{leb-true}
 use mir.Syntax.{w64}
 use mir.Val.{SFits, toZ, ofZ}
 use mir.Facts.{toZ-ofZ}
-use Rattle.whole.proofs.Bools.{both, joined}
+use Rattle.whole.proofs.Bools.{both}
+use Rattle.whole.proofs.Every.{every-at}
 use Rattle.kinds.specs.Answer.{Answer, gives, refused, provided}
 use Rattle.kinds.specs.Kinds.{within}
+use Rattle.kinds.proofs.Ranges.{wider}
 use Rattle.tables.specs.Page.{Page, isShift, isGeoid}
+use Rattle.tables.specs.Cyprus.{cyprus}
+use Rattle.tables.specs.Tables.{pages, areaInRange}
 use Rattle.tables.proofs.Limits.{page-keeps, six-keep}
-use Rattle.datum.specs.Point.{isCode, pageOf}
+use Rattle.tables.proofs.Demands.{areas-in-range}
+use Rattle.datum.specs.Point.{isCode, row, pageOf}
 
 -- what holds of 1 to 6 holds of every code
 pub six : (P : ℤ → Type 0) → P (pos 1) → P (pos 2) → P (pos 3) → P (pos 4) → P (pos 5) → P (pos 6) → (code : ℤ) → isCode code ≡ true → P code
@@ -35,19 +40,12 @@ six P p₁ p₂ p₃ p₄ p₅ p₆ (pos n) t =
     go (suc (suc (suc (suc (suc (suc zero)))))) h k = p₆
     go (suc (suc (suc (suc (suc (suc (suc n))))))) h k = absurd (omega arith)
 
--- a narrower range is in a wider one
-wider : (a b c d : ℕ) (z : ℤ) → c ≤ a → b ≤ d → within (pos a) (pos b) z ≡ true → within (pos c) (pos d) z ≡ true
-wider a b c d (negsuc n) h k t = absurd (false≢true t)
-wider a b c d (pos n) h k t =
-    let p = both (leZ (pos a) (pos n)) (leZ (pos n) (pos b)) t in
-    joined (le-leb c n (omega (arith, leb-true a n (p .0)))) (le-leb n d (omega (arith, leb-true n b (p .1))))
-
 -- the codes of each family
 pub not-shift : (code : ℤ) → ((isCode code ≡ true) × (isShift (pageOf code .equations) ≡ false)) ↔ (within (pos 5) (pos 6) code ≡ true)
 not-shift code = (
   (λ h. six (λ z. isShift (pageOf z .equations) ≡ false → within (pos 5) (pos 6) z ≡ true) sym sym sym sym (λ e. refl) (λ e. refl) code (h .0) (h .1)),
   (λ h.
-      let c = wider 5 6 1 6 code (lit≤ tt) (lit≤ tt) h in
+      let c = wider (pos 5) (pos 6) (pos 1) (pos 6) code refl refl h in
       (c, six (λ z. within (pos 5) (pos 6) z ≡ true → isShift (pageOf z .equations) ≡ false) sym sym sym sym (λ e. refl) (λ e. refl) code c h)),
 )
 
@@ -55,7 +53,7 @@ pub not-geoid : (code : ℤ) → ((isCode code ≡ true) × (isGeoid (pageOf cod
 not-geoid code = (
   (λ h. six (λ z. isGeoid (pageOf z .equations) ≡ false → within (pos 1) (pos 4) z ≡ true) (λ e. refl) (λ e. refl) (λ e. refl) (λ e. refl) sym sym code (h .0) (h .1)),
   (λ h.
-      let c = wider 1 4 1 6 code (lit≤ tt) (lit≤ tt) h in
+      let c = wider (pos 1) (pos 4) (pos 1) (pos 6) code refl refl h in
       (c, six (λ z. within (pos 1) (pos 4) z ≡ true → isGeoid (pageOf z .equations) ≡ false) (λ e. refl) (λ e. refl) (λ e. refl) (λ e. refl) sym sym code c h)),
 )
 
@@ -91,3 +89,7 @@ module _ {code : ℤ} (f : SFits w64 code) where
 -- the pages of the codes keep their limits
 pub code-keeps : (code : ℤ) → isCode code ≡ true → T (page-keeps (pageOf code))
 code-keeps = six (λ z. T (page-keeps (pageOf z))) (six-keep 0 (lit< tt)) (six-keep 1 (lit< tt)) (six-keep 2 (lit< tt)) (six-keep 3 (lit< tt)) (six-keep 4 (lit< tt)) (six-keep 5 (lit< tt))
+
+-- and their areas lie in the range of positions
+pub code-in-range : (code : ℤ) → isCode code ≡ true → areaInRange (pageOf code) ≡ true
+code-in-range code h = every-at areaInRange pages cyprus (row code) (six (λ z. row z < 6) (lit< tt) (lit< tt) (lit< tt) (lit< tt) (lit< tt) (lit< tt) code h) areas-in-range

@@ -7,16 +7,17 @@ use Prim.Native.Nat.{ℕ, _<_, _^_}
 use lib.Dec.{T, lit<, lit≤}
 use lib.IntN.{ℤ, pos, negℤ, _-ℤ_, _*ℤ_}
 use Rattle.whole.specs.Round.{roundDiv}
-use Rattle.kinds.specs.Answer.{Answer, gives, refused, provided}
+use Rattle.kinds.specs.Answer.{Answer, gives, refused, provided, Test}
 use Rattle.kinds.specs.Kinds.{within, isFourBytes}
-use Rattle.kinds.proofs.Answers.{number-back, rebuilt, determined, is, is-or}
+use Rattle.kinds.proofs.Answers.{one-of, first-failed, fails-at, number-back, rebuilt, determined, is, is-or}
+use Rattle.kinds.proofs.Demands.{given-where}
 use Rattle.equation.specs.Powers.{power, powersOf}
 use Rattle.equation.specs.Equation.{Term, sum}
 use Rattle.equation.specs.Exact.{whole, _times_, _to-the_, exactOf, Within, Beyond}
 use Rattle.equation.proofs.Fractions.{reaches}
 use Rattle.tables.specs.Page.{Page, Family, shift, geoid, isShift, isGeoid, isEither, each, Each, OfShift, OfGeoid}
 use Rattle.tables.specs.Rule.{inArea, worked}
-use Rattle.datum.specs.Point.{isCode, pageOf, inRange, pointOf, asked, answerOf, shiftOf, geoidOf, valuesOf}
+use Rattle.datum.specs.Point.{isCode, pageOf, inRange, pointOf, tests, asked, answerOf, shiftOf, geoidOf, valuesOf}
 use Rattle.datum.specs.Exact.{exact, AllWithin, demanded, boundsOf}
 use Rattle.datum.specs.Cases.{shiftAnswer, geoidAnswer, pointAnswer}
 use Rattle.kinds.specs.declared.Refusal.the-variants as Refusal
@@ -26,9 +27,8 @@ use Rattle.datum.specs.declared.ShiftAnswer.{ShiftAnswer}
 use Rattle.datum.specs.declared.ShiftAnswer.the-variants as Shifted
 use Rattle.datum.specs.declared.PointAnswer.{PointAnswer}
 use Rattle.datum.specs.declared.PointAnswer.the-variants as Point
-use Rattle.datum.proofs.Codes.{six, not-shift, not-geoid, code-keeps}
-use Rattle.datum.proofs.Points.{fit}
-use Rattle.datum.proofs.Refusals as refusals
+use Rattle.datum.proofs.Codes.{six, not-shift, not-geoid, code-keeps, code-in-range}
+use Rattle.datum.proofs.Points.{fit, in-range}
 use Rattle.datum.proofs.Errors.{page-bounded, point-near, no-narrower, all-widened, over-power, centres-apart, no-one-answer}
 
 -- ---- 'Order for a point: 4, 5, 3, 6': when each number is given, whichever family is asked of
@@ -39,21 +39,27 @@ module _ (family : Family (List Term) → Bool) (code latitude longitude : ℤ) 
   abbrev isAsked : Bool
   isAsked = family (page .equations)
 
+  abbrev inTurn : List Test
+  inTurn = tests family code latitude longitude
+
+  abbrev value : Family ℤ
+  value = worked page latitude longitude
+
   pub given-4 : (asked family code latitude longitude ≡ refused 4) ↔ (isCode code ≡ false)
-  given-4 = refusals.at-4 (isCode code) isAsked (inRange latitude longitude) (inArea page latitude longitude) (worked page latitude longitude)
+  given-4 = fails-at inTurn value 0 refl
 
   pub given-5 : (asked family code latitude longitude ≡ refused 5) ↔ ((isCode code ≡ true) × (isAsked ≡ false))
-  given-5 = refusals.at-5 (isCode code) isAsked (inRange latitude longitude) (inArea page latitude longitude) (worked page latitude longitude)
+  given-5 = fails-at inTurn value 1 refl
 
   pub given-3 : (asked family code latitude longitude ≡ refused 3) ↔ ((isCode code ≡ true) × ((isAsked ≡ true) × (inRange latitude longitude ≡ false)))
-  given-3 = refusals.at-3 (isCode code) isAsked (inRange latitude longitude) (inArea page latitude longitude) (worked page latitude longitude)
+  given-3 = fails-at inTurn value 2 refl
 
   pub given-6 : (asked family code latitude longitude ≡ refused 6) ↔ ((isCode code ≡ true) × ((isAsked ≡ true) × ((inRange latitude longitude ≡ true) × (inArea page latitude longitude ≡ false))))
-  given-6 = refusals.at-6 (isCode code) isAsked (inRange latitude longitude) (inArea page latitude longitude) (worked page latitude longitude)
+  given-6 = fails-at inTurn value 3 refl
 
   -- no other number is given
   pub given-one-of : (n : ℕ) → asked family code latitude longitude ≡ refused n → (n ≡ 4) ⊎ ((n ≡ 5) ⊎ ((n ≡ 3) ⊎ (n ≡ 6)))
-  given-one-of = refusals.one-of (isCode code) isAsked (inRange latitude longitude) (inArea page latitude longitude) (worked page latitude longitude)
+  given-one-of n h = one-of inTurn n (first-failed inTurn value n h)
 
   -- so 0 is the number of none
   pub above-0 : (n : ℕ) → asked family code latitude longitude ≡ refused n → 0 < n
@@ -61,7 +67,12 @@ module _ (family : Family (List Term) → Bool) (code latitude longitude : ℤ) 
 
   -- and where none is, the answer is the one that the printed coefficients give
   pub answered : (values : Family ℤ) → (asked family code latitude longitude ≡ gives values) ↔ (((isCode code ≡ true) × (isAsked ≡ true)) × (((inRange latitude longitude ≡ true) × (inArea page latitude longitude ≡ true)) × (worked page latitude longitude ≡ values)))
-  answered = refusals.given (isCode code) isAsked (inRange latitude longitude) (inArea page latitude longitude) (worked page latitude longitude)
+  answered values = (
+    (λ h.
+        let p = given-where inTurn value values .0 h in
+        ((p .0 .0, p .0 .1 .0), ((p .0 .1 .1 .0, p .0 .1 .1 .1 .0), p .1))),
+    (λ h. given-where inTurn value values .1 ((h .0 .0, (h .0 .1, (h .1 .0 .0, (h .1 .0 .1, tt)))), h .1 .1)),
+  )
 
 -- ---- 'a shift is asked of code 5 or 6, or a geoid height of code 1 to 4'
 pub shift-5 : (code latitude longitude : ℤ) → (shiftOf code latitude longitude ≡ refused 5) ↔ (within (pos 5) (pos 6) code ≡ true)
@@ -133,6 +144,14 @@ module _ (family : Family (List Term) → Bool) (code latitude longitude : ℤ) 
       (subst (λ (v : Family ℤ). T (no-narrower 1000 1 (boundsOf code) (demanded v))) (p .1 .1)
       (six (λ z. T (no-narrower 1000 1 (boundsOf z) (demanded (worked (pageOf z) latitude longitude)))) tt tt tt tt tt tt code (p .0 .0)))
       (within-bounds h)
+
+  -- and 'each point in its area' is answered: a call that takes the code's family refuses none of them
+  pub in-its-area : isCode code ≡ true → family (pageOf code .equations) ≡ true → inArea (pageOf code) latitude longitude ≡ true
+      → (asked family code latitude longitude ≡ gives (worked (pageOf code) latitude longitude))
+      × AllWithin 1 (demanded (worked (pageOf code) latitude longitude)) (exact (pageOf code) latitude longitude) (worked (pageOf code) latitude longitude)
+  in-its-area is-code is-asked inside =
+      let e = answered family code latitude longitude (worked (pageOf code) latitude longitude) .1 ((is-code, is-asked), ((in-range (pageOf code) latitude longitude (code-in-range code is-code) inside, inside), refl)) in
+      (e, as-demanded e)
 
   -- a shift's three numbers are within 2, 2 and 1 units of the exact values of their polynomials
   pub shift-near : (a b c : ℤ) → asked family code latitude longitude ≡ gives (shift a b c) → OfShift (exact (pageOf code) latitude longitude) (λ dLat dLon dH. Within 2 1 dLat a × Within 2 1 dLon b × Within 1 1 dH c)

@@ -7,8 +7,6 @@ pub mod Places
 pub mod Points
 -- what a call says of a code, by the page that the code has
 pub mod Calls
--- when each number is given
-pub mod Refusals
 -- how near a point's answer is to the exact value: the test of each page, and what it shows
 pub mod Errors
 -- what document 01 asks of a point's answer

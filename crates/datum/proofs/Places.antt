@@ -52,8 +52,8 @@ module _ (frame : Frame) (latitude longitude : ℤ) where
       placed e hu hv = (λ i. gives (hu i, hv i)) ∙ (λ i. by (sym north i) (sym east i) (sym e i))
 
 -- ---- a distance from the centre, as the code has it
-pub distance : (k centre x : ℤ) {m r : ℤ} → SFits w64 k → SFits w64 centre → SFits w32 m → m ≡ x → SFits w64 r → r ≡ fromCentre (toZ w64 (ofZ w64 k)) (toZ w64 (ofZ w64 centre)) (toZ w32 (ofZ w32 m)) → toZ w64 (ofZ w64 r) ≡ fromCentre k centre x
-distance k centre x f g h e j t = of j .reads ∙ t ∙ (λ i. fromCentre (of f .reads i) (of g .reads i) ((of h .reads ∙ e) i))
+pub distance : (k centre x : ℤ) {m r : ℤ} → SFits w64 k → SFits w64 centre → SFits w32 m → m ≡ x → r ≡ fromCentre (toZ w64 (ofZ w64 k)) (toZ w64 (ofZ w64 centre)) (toZ w32 (ofZ w32 m)) → r ≡ fromCentre k centre x
+distance k centre x f g h e t = t ∙ (λ i. fromCentre (of f .reads i) (of g .reads i) ((of h .reads ∙ e) i))
 
 -- a number read back is as small as it was
 pub as-small : (x : ℤ) {n : ℕ} → SFits w64 x → natAbs x ≤ n → natAbs (toZ w64 (ofZ w64 x)) ≤ n

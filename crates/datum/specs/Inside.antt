@@ -27,5 +27,5 @@ placeOf frame latitude longitude =
     (gives (fromCentre (frame .k) (frame .latitude) latitude, fromCentre (frame .k) (frame .longitude) longitude)))
 
 abbrev pub placeAnswer : PlaceAnswer → Answer (ℤ × ℤ)
-placeAnswer (Place.Gives p) = gives (p .u, p .v)
+placeAnswer (Place.Gives p) = gives (p .u .0, p .v .0)
 placeAnswer (Place.Refused r) = refused (numberOf r)

@@ -4,7 +4,7 @@ use mathlib.Core.List.{List, [], _∷_}
 use Prim.Native.Nat.{ℕ, _-_}
 use lib.IntN.{ℤ, pos, natAbs}
 use lib.ListN.{getD}
-use Rattle.kinds.specs.Answer.{Answer, gives, refused, provided}
+use Rattle.kinds.specs.Answer.{Answer, gives, refused, Test, _else_, inOrder}
 use Rattle.kinds.specs.Kinds.{within, isLatitude, isLongitude}
 use Rattle.equation.specs.Equation.{Term}
 use Rattle.tables.specs.Page.{Page, Family, shift, geoid, isShift, isGeoid, isEither}
@@ -28,19 +28,25 @@ pageOf code = getD pages (row code) cyprus
 abbrev pub inRange : ℤ → ℤ → Bool
 inRange latitude longitude = isLatitude latitude && isLongitude longitude
 
--- of a datum: 3, 6
-abbrev pub pointOf : Page → ℤ → ℤ → Answer (Family ℤ)
-pointOf page latitude longitude =
-    provided (inRange latitude longitude) 3
-    (provided (inArea page latitude longitude) 6
-    (gives (worked page latitude longitude)))
+-- of a datum
+abbrev pub pointTests : Page → ℤ → ℤ → List Test
+pointTests page latitude longitude =
+    (inRange latitude longitude else 3)
+    ∷ (inArea page latitude longitude else 6)
+    ∷ []
 
--- of a code, asked of a family: 4, 5, 3, 6
+abbrev pub pointOf : Page → ℤ → ℤ → Answer (Family ℤ)
+pointOf page latitude longitude = inOrder (pointTests page latitude longitude) (gives (worked page latitude longitude))
+
+-- of a code, asked of a family: 'Order for a point: 4, 5, 3, 6'
+abbrev pub tests : (Family (List Term) → Bool) → ℤ → ℤ → ℤ → List Test
+tests family code latitude longitude =
+    (isCode code else 4)
+    ∷ (family (pageOf code .equations) else 5)
+    ∷ pointTests (pageOf code) latitude longitude
+
 abbrev pub asked : (Family (List Term) → Bool) → ℤ → ℤ → ℤ → Answer (Family ℤ)
-asked family code latitude longitude =
-    provided (isCode code) 4
-    (provided (family (pageOf code .equations)) 5
-    (pointOf (pageOf code) latitude longitude))
+asked family code latitude longitude = inOrder (tests family code latitude longitude) (gives (worked (pageOf code) latitude longitude))
 
 abbrev pub shiftOf : ℤ → ℤ → ℤ → Answer (Family ℤ)
 shiftOf code latitude longitude = asked isShift code latitude longitude

@@ -12,6 +12,7 @@ use tables::Frame;
 use tables::GeoidDatum;
 use tables::ShiftDatum;
 pub use tables::Shifts;
+use whole::Parts;
 ghost use mathlib.Core.Path.{_≡_};
 ghost use mathlib.Core.Bool.{_&&_};
 ghost use Prim.Native.Nat.{_≤_};
@@ -128,10 +129,10 @@ fn geoid_at(datum: GeoidDatum, latitude: i64, longitude: i64) -> HeightAnswer
     }
 }
 
-// A point by its distance from the centre, in hundred-millionths.
+// A point by its distance from the centre.
 struct Place {
-    u: i64,
-    v: i64,
+    u: Parts,
+    v: Parts,
 }
 
 enum PlaceAnswer {
@@ -169,9 +170,9 @@ fn holds(frame: Frame, latitude: LocalLatitude, longitude: LocalLongitude) -> bo
 }
 
 // K times the distance from the centre, over the ms of a degree, rounded.
-fn from_centre(k: i64, centre: i64, ms: i32) -> i64
+fn from_centre(k: i64, centre: i64, ms: i32) -> Parts
     requires { ⌜ (natAbs k ≤ 1000000000) × (natAbs centre ≤ 2000000000) ⌝ }
-    ensures { λ r. ⌜ r ≡ fromCentre k centre ms ⌝ }
+    ensures { λ r. ⌜ r .0 ≡ fromCentre k centre ms ⌝ }
 {
-    whole::round_div(k * (ms as i64 - centre), LocalLatitude::DEGREE)
+    Parts(whole::round_div(k * (ms as i64 - centre), LocalLatitude::DEGREE))
 }

@@ -7,9 +7,9 @@ use lib.Dec.{T, ltb, ltb→lt, lit<}
 use lib.ListN.{getD}
 use lib.IntN.{ℤ, pos, natAbs}
 use mir.Facts.{and-yes}
-use Rattle.whole.specs.Round.{nearest, scale}
+use Rattle.whole.specs.Round.{roundHalfUp, scale}
 use Rattle.whole.proofs.Sizes.{abs-*-≤, abs-round}
-use Rattle.whole.proofs.Rounding.{nearest-mono, product-size}
+use Rattle.whole.proofs.Rounding.{half-up-mono, product-size}
 use Rattle.equation.specs.Powers.{powersOf}
 use Rattle.equation.specs.Equation.{Term, term, amongTen, product, equationOf}
 use Rattle.equation.specs.Room.{Fitting, EachFits, sizes, Room}
@@ -28,11 +28,11 @@ terms-keep mu mv (t ∷ ts) = term-keeps mu mv t && terms-keep mu mv ts
 -- the largest that the terms' sizes come to
 abbrev reach : ℕ → ℕ → List Term → ℕ
 reach mu mv [] = 0
-reach mu mv (term c i j ∷ ts) = natAbs c * nearest (limit scale mu i * limit scale mv j) scale + reach mu mv ts
+reach mu mv (term c i j ∷ ts) = natAbs c * roundHalfUp (limit scale mu i * limit scale mv j) scale + reach mu mv ts
 
 -- 64 bits hold the sum, and 4 bytes what is left of it once divided
 abbrev pub keeps : ℕ → ℕ → ℕ → List Term → Bool
-keeps divisor mu mv ts = terms-keep mu mv ts && (ltb (reach mu mv ts) 9223372036854775808 && ltb (nearest (reach mu mv ts) divisor) 2147483648)
+keeps divisor mu mv ts = terms-keep mu mv ts && (ltb (reach mu mv ts) 9223372036854775808 && ltb (roundHalfUp (reach mu mv ts) divisor) 2147483648)
 
 -- ---- what it shows
 module _ {mu mv : ℕ} (u v : ℤ) (hu : natAbs u ≤ mu) (hv : natAbs v ≤ mv) where
@@ -60,7 +60,7 @@ module _ {mu mv : ℕ} (u v : ℤ) (hu : natAbs u ≤ mu) (hv : natAbs v ≤ mv)
             (ltb→lt (limit scale mu i * limit scale mv j) 9223372036854775808 (a .1)),
       )
 
-  size-reach : (c : ℤ) (i j : ℕ) → Fitting (term c i j) pu pv → natAbs c * natAbs (product scale i j pu pv) ≤ natAbs c * nearest (limit scale mu i * limit scale mv j) scale
+  size-reach : (c : ℤ) (i j : ℕ) → Fitting (term c i j) pu pv → natAbs c * natAbs (product scale i j pu pv) ≤ natAbs c * roundHalfUp (limit scale mu i * limit scale mv j) scale
   size-reach c i j f =
       mul-le-mul (le-refl (natAbs c)) (product-size (getD pu i (pos 0)) (getD pv j (pos 0)) (lit< tt) (at-u i (f .0)) (at-v j (f .1)))
 
@@ -81,7 +81,7 @@ module _ {mu mv : ℕ} (u v : ℤ) (hu : natAbs u ≤ mu) (hv : natAbs v ≤ mv)
     in-64-bits = ltb (reach mu mv ts) 9223372036854775808
 
     abbrev in-4-bytes : Bool
-    in-4-bytes = ltb (nearest (reach mu mv ts) divisor) 2147483648
+    in-4-bytes = ltb (roundHalfUp (reach mu mv ts) divisor) 2147483648
 
     fit : EachFits ts pu pv
     fit = terms-fit ts (and-yes (terms-keep mu mv ts) (in-64-bits && in-4-bytes) h .0)
@@ -99,5 +99,5 @@ module _ {mu mv : ℕ} (u v : ℤ) (hu : natAbs u ≤ mu) (hv : natAbs v ≤ mv)
     -- and the answer fits 4 bytes
     pub in-four-bytes : 0 < divisor → natAbs (equationOf divisor ts pu pv) < 2 ^ 31
     in-four-bytes p =
-        lt-of-le-of-lt (rw abs-round (nearest-mono p (le-trans (sum-size pu pv ts) (sizes-reach ts fit))))
-        (ltb→lt (nearest (reach mu mv ts) divisor) 2147483648 (sums .1))
+        lt-of-le-of-lt (rw abs-round (half-up-mono p (le-trans (sum-size pu pv ts) (sizes-reach ts fit))))
+        (ltb→lt (roundHalfUp (reach mu mv ts) divisor) 2147483648 (sums .1))

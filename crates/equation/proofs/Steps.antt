@@ -12,9 +12,9 @@ use lib.ListN.{length, getD, length-append, List·getD-append}
 use lib.Seq.{getD-at}
 use lib.IntN.{ℤ, pos, negsuc, natAbs, _*ℤ_}
 use lib.Signed.{nonNeg, ltZ}
-use Rattle.whole.specs.Round.{nearest, roundDiv}
+use Rattle.whole.specs.Round.{roundHalfUp, roundDiv}
 use Rattle.whole.proofs.Signs.{signed, alike, by-sign, signed-*, signed-round}
-use Rattle.whole.proofs.Rounding.{nearest-mono, product-size}
+use Rattle.whole.proofs.Rounding.{half-up-mono, product-size}
 use Rattle.equation.specs.Powers.{power, powersOf}
 
 -- the sign of the nth power, of a number whose sign is s: below zero the odd ones are below zero, and no other
@@ -70,7 +70,7 @@ module _ (scale : ℕ) where
   abbrev pub limit : ℕ → ℕ → ℕ
   limit m zero = scale
   limit m (suc zero) = m
-  limit m (suc (suc n)) = nearest (limit m (suc n) * m) scale
+  limit m (suc (suc n)) = roundHalfUp (limit m (suc n) * m) scale
 
   pub power-size : 0 < scale → (u : ℤ) {m : ℕ} → natAbs u ≤ m → (n : ℕ) → natAbs (power scale u n) ≤ limit m n
   unfolding power
@@ -78,14 +78,14 @@ module _ (scale : ℕ) where
   power-size p u h (suc zero) = h
   power-size p u h (suc (suc n)) = product-size (power scale u (suc n)) u p (power-size p u h (suc n)) h
 
-  pub limit-next : (m n : ℕ) → 1 ≤ n → limit m (n + 1) ≡ nearest (limit m n * m) scale
+  pub limit-next : (m n : ℕ) → 1 ≤ n → limit m (n + 1) ≡ roundHalfUp (limit m n * m) scale
   limit-next m zero h = absurd (not-suc-le-zero h)
   limit-next m (suc n) h = ap (limit m) (add-one (suc n))
 
   pub limit-mono : 0 < scale → {a b : ℕ} → a ≤ b → (n : ℕ) → limit a n ≤ limit b n
   limit-mono p h zero = le-refl scale
   limit-mono p h (suc zero) = h
-  limit-mono p h (suc (suc n)) = nearest-mono p (mul-le-mul (limit-mono p h (suc n)) h)
+  limit-mono p h (suc (suc n)) = half-up-mono p (mul-le-mul (limit-mono p h (suc n)) h)
 
   -- ---- a power by its sign and its size
   pub power-signed : (u : ℤ) (n : ℕ) → power scale u n ≡ signed (sign (nonNeg u) n) (limit (natAbs u) n)

@@ -1,4 +1,5 @@
 // The working rule: the powers of u and of v, and one equation over its table of terms. It knows no datum.
+use whole::Parts;
 ghost use mathlib.Core.Path.{_≡_};
 ghost use Prim.Native.Nat.{_≤_};
 ghost use lib.IntN.{natAbs};
@@ -10,19 +11,24 @@ ghost use Rattle.equation.specs.Room.{Room};
 
 // The powers of u from the zeroth to the ninth, in hundred-millionths, each the one before times u, rounded.
 // They are worked by their sizes. Where u is below zero the odd ones are too, and no other.
-pub fn powers(u: i64) -> [i64; 10]
-    requires { ⌜ natAbs u ≤ 1000000000 ⌝ }
-    ensures { λ r. ⌜ r ≡ powersOf scale u 10 ⌝ }
+pub fn powers(u: Parts) -> [i64; 10]
+    requires { ⌜ natAbs (u .0) ≤ 1000000000 ⌝ }
+    ensures { λ r. ⌜ r ≡ powersOf scale (u .0) 10 ⌝ }
 {
-    let size = whole::size(u);
-    let mut out = [whole::SCALE; 10];
-    out[1] = u;
+    let first = u.0;
+    let size = whole::size(first);
+    let mut out = [Parts::SCALE; 10];
+    out[1] = first;
     let mut power = size;
     let mut k: usize = 2;
     while k < 10 {
         power = whole::scaled(power, size);
         let next = power as i64;
-        out[k] = if (u < 0) & (k % 2 == 1) { -next } else { next };
+        out[k] = if (first < 0) & (k % 2 == 1) {
+            -next
+        } else {
+            next
+        };
         k += 1;
     }
     out

@@ -8,7 +8,7 @@ use mir.Syntax.{w32, w64}
 use mir.Val.{SFits, toZ, ofZ}
 use Rattle.whole.proofs.Words.{of}
 use Rattle.datum.specs.Point.{valuesOf}
-use Rattle.floating.specs.Floats.{_dividedBy_, perSecond, perMetre, floatingOf, zero}
+use Rattle.floating.specs.Floats.{_dividedBy_, perSecond, perMetre, floatingOf, floatZero}
 use Rattle.floating.specs.Cases.{floatAnswer}
 use Rattle.floating.specs.declared.Answer.{Answer}
 
@@ -21,7 +21,7 @@ pub per-metre : ofBits binary64 0x408F_4000_0000_0000 ≡ ofInt binary64 (pos pe
 unfolding ofBits ofInt round
 per-metre = refl
 
-pub no-value : ofBits binary64 0 ≡ zero
+pub no-value : ofBits binary64 0 ≡ floatZero
 unfolding ofBits ofInt round
 no-value = refl
 
@@ -44,5 +44,5 @@ module _ {code latitude longitude : ℤ} (c : SFits w64 code) (b : SFits w64 lat
   -- the three values
   pub values-of : (given : Answer) {values : List Float}
       → floatAnswer given ≡ floatingOf (toZ w64 (ofZ w64 code)) (toZ w64 (ofZ w64 latitude)) (toZ w64 (ofZ w64 longitude))
-      → values ≡ valuesOf zero (floatAnswer given) → values ≡ valuesOf zero (floatingOf code latitude longitude)
-  values-of given e same = same ∙ ap (valuesOf zero) (e ∙ came floatingOf)
+      → values ≡ valuesOf floatZero (floatAnswer given) → values ≡ valuesOf floatZero (floatingOf code latitude longitude)
+  values-of given e same = same ∙ ap (valuesOf floatZero) (e ∙ came floatingOf)

@@ -17,13 +17,13 @@ use Rattle.equation.specs.Powers.{power, powersOf}
 use Rattle.equation.specs.Equation.{sum}
 use Rattle.equation.specs.Exact.{_over_, whole, Within}
 use Rattle.tables.specs.Page.{Family, shift, geoid, isEither, ofEach}
-use Rattle.tables.specs.Rule.{worked}
-use Rattle.datum.specs.Point.{pageOf, answerOf, firstOf, secondOf, thirdOf}
+use Rattle.tables.specs.Rule.{inArea, worked}
+use Rattle.datum.specs.Point.{isCode, pageOf, answerOf, firstOf, secondOf, thirdOf}
 use Rattle.datum.specs.Exact.{exact, demanded, boundsOf}
 use Rattle.datum.proofs.Codes.{six}
 use Rattle.datum.proofs.Errors.{no-narrower}
 use Rattle.datum.proofs.Demands as datum
-use Rattle.floating.specs.Floats.{perSecond, perMetre, seconds, metres, inFloats, answerInFloats, floatingOf, zero}
+use Rattle.floating.specs.Floats.{perSecond, perMetre, seconds, metres, inFloats, answerInFloats, floatingOf, floatZero}
 use Rattle.floating.specs.Cases.{floatsSay, floatAnswer}
 use Rattle.floating.specs.Value.{valueOf, inUnits, FloatsWithin}
 use Rattle.floating.specs.declared.ShiftFloats.{ShiftFloats}
@@ -54,7 +54,7 @@ unfolding ofInt round
 divisors = record { second = refl; metre = refl; second-bits = per-second; metre-bits = per-metre }
 
 -- and the zero of a refusal is no -0
-pub zero-worked : ofBits binary64 0x0000_0000_0000_0000 ≡ zero
+pub zero-worked : ofBits binary64 0x0000_0000_0000_0000 ≡ floatZero
 zero-worked = no-value
 
 -- ---- 'rounded by IEEE 754': whole numbers, and the bits of their floats
@@ -152,21 +152,29 @@ module _ (code latitude longitude : ℤ) where
       (six (λ z. T (no-narrower 1000 1 (ofEach (λ h. h + 1) (boundsOf z)) (demanded (inFloats (worked (pageOf z) latitude longitude))))) tt tt tt tt tt tt code (p .0 .0)))
       (within-bounds h)
 
+  -- and each point in its area is answered
+  pub in-its-area : isCode code ≡ true → inArea (pageOf code) latitude longitude ≡ true
+      → (floatingOf code latitude longitude ≡ gives (inFloats (worked (pageOf code) latitude longitude)))
+      × FloatsWithin 1 (demanded (inFloats (worked (pageOf code) latitude longitude))) (exact (pageOf code) latitude longitude) (inFloats (worked (pageOf code) latitude longitude))
+  in-its-area is-code inside =
+      let e = ap answerInFloats (datum.in-its-area isEither code latitude longitude is-code refl inside .0) in
+      (e, as-demanded e)
+
   -- ---- 'the first is dLat or N, the second and third are zero for a geoid height'
   abbrev called : Float → Float → Float → ℕ → Type 0
   called x y z n =
-      (firstOf zero (floatingOf code latitude longitude) ≡ x) × (secondOf zero (floatingOf code latitude longitude) ≡ y)
-      × (thirdOf zero (floatingOf code latitude longitude) ≡ z) × (refusalOf (floatingOf code latitude longitude) ≡ n)
+      (firstOf floatZero (floatingOf code latitude longitude) ≡ x) × (secondOf floatZero (floatingOf code latitude longitude) ≡ y)
+      × (thirdOf floatZero (floatingOf code latitude longitude) ≡ z) × (refusalOf (floatingOf code latitude longitude) ≡ n)
 
   pub of-shift : (dLat dLon dH : Float) → floatingOf code latitude longitude ≡ gives (shift dLat dLon dH) → called dLat dLon dH 0
-  of-shift dLat dLon dH h = (ap (firstOf zero) h, ap (secondOf zero) h, ap (thirdOf zero) h, ap refusalOf h)
+  of-shift dLat dLon dH h = (ap (firstOf floatZero) h, ap (secondOf floatZero) h, ap (thirdOf floatZero) h, ap refusalOf h)
 
-  pub of-geoid : (n : Float) → floatingOf code latitude longitude ≡ gives (geoid n) → called n zero zero 0
-  of-geoid n h = (ap (firstOf zero) h, ap (secondOf zero) h, ap (thirdOf zero) h, ap refusalOf h)
+  pub of-geoid : (n : Float) → floatingOf code latitude longitude ≡ gives (geoid n) → called n floatZero floatZero 0
+  of-geoid n h = (ap (firstOf floatZero) h, ap (secondOf floatZero) h, ap (thirdOf floatZero) h, ap refusalOf h)
 
   -- 'and all are zero where the point is refused'; 'a fourth call gives the point's refusal number'
-  pub of-refused : (n : ℕ) → floatingOf code latitude longitude ≡ refused n → called zero zero zero n
-  of-refused n h = (ap (firstOf zero) h, ap (secondOf zero) h, ap (thirdOf zero) h, ap refusalOf h)
+  pub of-refused : (n : ℕ) → floatingOf code latitude longitude ≡ refused n → called floatZero floatZero floatZero n
+  of-refused n h = (ap (firstOf floatZero) h, ap (secondOf floatZero) h, ap (thirdOf floatZero) h, ap refusalOf h)
 
   -- 'or 0 for an answered point', and for no other
   pub answered-0 : (refusalOf (floatingOf code latitude longitude) ≡ 0) ↔ ((floats : Family Float) × (floatingOf code latitude longitude ≡ gives floats))

@@ -38,5 +38,5 @@ abbrev pub floatingOf : ℤ → ℤ → ℤ → Answer (Family Float)
 floatingOf code latitude longitude = answerInFloats (answerOf code latitude longitude)
 
 -- what stands for a value that there is not
-abbrev pub zero : Float
-zero = ofInt binary64 (pos 0)
+abbrev pub floatZero : Float
+floatZero = ofInt binary64 (pos 0)

@@ -7,7 +7,7 @@ ghost use mathlib.Core.Path.{_≡_};
 ghost use Rattle.kinds.specs.Answer.{refusalOf};
 ghost use Rattle.datum.specs.Point.{firstOf, secondOf, thirdOf, valuesOf};
 ghost use Rattle.tables.specs.Cases.{shiftSays};
-ghost use Rattle.floating.specs.Floats.{seconds, metres, inFloats, floatingOf, zero};
+ghost use Rattle.floating.specs.Floats.{seconds, metres, inFloats, floatingOf, floatZero};
 ghost use Rattle.floating.specs.Cases.{floatsSay, floatAnswer};
 
 // The shifts of a point: of latitude and longitude in seconds, of height in metres.
@@ -39,21 +39,21 @@ pub fn floating(code: i64, latitude: i64, longitude: i64) -> Answer
 
 // dLat in seconds, or N in metres; 0 where the point is refused.
 pub fn first(code: i64, latitude: i64, longitude: i64) -> f64
-    ensures { λ r. ⌜ r ≡ firstOf zero (floatingOf code latitude longitude) ⌝ }
+    ensures { λ r. ⌜ r ≡ firstOf floatZero (floatingOf code latitude longitude) ⌝ }
 {
     floating(code, latitude, longitude).values()[0]
 }
 
 // dLon in seconds; 0 of a geoid datum, and where the point is refused.
 pub fn second(code: i64, latitude: i64, longitude: i64) -> f64
-    ensures { λ r. ⌜ r ≡ secondOf zero (floatingOf code latitude longitude) ⌝ }
+    ensures { λ r. ⌜ r ≡ secondOf floatZero (floatingOf code latitude longitude) ⌝ }
 {
     floating(code, latitude, longitude).values()[1]
 }
 
 // dH in metres; 0 of a geoid datum, and where the point is refused.
 pub fn third(code: i64, latitude: i64, longitude: i64) -> f64
-    ensures { λ r. ⌜ r ≡ thirdOf zero (floatingOf code latitude longitude) ⌝ }
+    ensures { λ r. ⌜ r ≡ thirdOf floatZero (floatingOf code latitude longitude) ⌝ }
 {
     floating(code, latitude, longitude).values()[2]
 }
@@ -72,7 +72,7 @@ pub fn refusal(code: i64, latitude: i64, longitude: i64) -> u8
 impl Answer {
     // dLat, dLon and dH; or N and two zeros; or three zeros where the point is refused.
     fn values(self) -> [f64; 3]
-        ensures { λ r. ⌜ r ≡ valuesOf zero (floatAnswer self) ⌝ }
+        ensures { λ r. ⌜ r ≡ valuesOf floatZero (floatAnswer self) ⌝ }
     {
         match self {
             Answer::Shift(shift) => [shift.latitude, shift.longitude, shift.height],

@@ -1,11 +1,12 @@
 -- What an answer says of the tests before it, and how what is said determines the answer. Assumes nothing.
 use mathlib.Core.Path.{_≡_, refl, sym, ap, _∙_}
-use mathlib.Core.Bool.{Bool, true, false, _&&_, cond}
+use mathlib.Core.Bool.{Bool, true, false, not, _&&_, cond, false≢true}
 use mathlib.Core.List.{List, [], _∷_, _++_}
-use mathlib.Core.Logic.{_⊎_, inl, inr, ⊎-elim}
-use Prim.Native.Nat.{ℕ, _<_}
+use mathlib.Core.Logic.{_↔_, _⊎_, inl, inr, ⊎-elim}
+use Prim.Native.Nat.{ℕ, zero, suc, _<_}
 use native.Mathlib.Omega.{arith}
 use lib.Dec.{eqb}
+use borrow.Author.Tests.{eq-eqb}
 use Rattle.whole.proofs.Bools.{both}
 use Rattle.kinds.specs.Answer.{Answer, gives, refused, provided, Test, _else_, inOrder, AllHold, FirstFails, following, refusalOf, numberOf}
 use Rattle.kinds.specs.declared.Refusal.{Refusal}
@@ -88,6 +89,58 @@ pub first-number : (P : ℕ → Bool) (tests : List Test) (n : ℕ) → of-numbe
 first-number P [] n p f = absurd f
 first-number P ((b else m) ∷ tests) n p (inl f) = ap P (sym (f .1)) ∙ both (P m) (of-numbers P tests) p .0
 first-number P ((b else m) ∷ tests) n p (inr f) = first-number P tests n (both (P m) (of-numbers P tests) p .1) (f .1)
+
+-- the number is that of one of them
+abbrev pub OneOf : List Test → ℕ → Type 0
+OneOf [] n = ⊥
+OneOf ((b else m) ∷ []) n = n ≡ m
+OneOf ((b else m) ∷ test ∷ tests) n = (n ≡ m) ⊎ OneOf (test ∷ tests) n
+
+pub one-of : (tests : List Test) (n : ℕ) → FirstFails tests n → OneOf tests n
+one-of [] n f = f
+one-of ((b else m) ∷ []) n (inl f) = sym (f .1)
+one-of ((b else m) ∷ []) n (inr f) = absurd (f .1)
+one-of ((b else m) ∷ test ∷ tests) n (inl f) = inl (sym (f .1))
+one-of ((b else m) ∷ test ∷ tests) n (inr f) = inr (one-of (test ∷ tests) n (f .1))
+
+-- ---- the test at a place: those before it hold, and it does not
+abbrev pub FailsAt : List Test → ℕ → Type 0
+FailsAt [] k = ⊥
+FailsAt ((b else m) ∷ tests) zero = b ≡ false
+FailsAt ((b else m) ∷ tests) (suc k) = (b ≡ true) × FailsAt tests k
+
+abbrev pub numberAt : List Test → ℕ → ℕ
+numberAt [] k = 0
+numberAt ((b else m) ∷ tests) zero = m
+numberAt ((b else m) ∷ tests) (suc k) = numberAt tests k
+
+-- no other test has its number
+abbrev pub apart : List Test → ℕ → Bool
+apart [] k = true
+apart ((b else m) ∷ tests) zero = of-numbers (λ n. not (eqb n m)) tests
+apart ((b else m) ∷ tests) (suc k) = not (eqb m (numberAt tests k)) && apart tests k
+
+unlike : (n m : ℕ) → n ≡ m → not (eqb n m) ≡ true → ⊥
+unlike n m e h = false≢true (sym (ap not (eq-eqb n m e)) ∙ h)
+
+at-first : (tests : List Test) (k : ℕ) → FailsAt tests k → FirstFails tests (numberAt tests k)
+at-first [] k f = f
+at-first ((b else m) ∷ tests) zero f = inl (f, refl)
+at-first ((b else m) ∷ tests) (suc k) f = inr (f .0, at-first tests k (f .1))
+
+first-at : (tests : List Test) (k : ℕ) → apart tests k ≡ true → FirstFails tests (numberAt tests k) → FailsAt tests k
+first-at [] k h f = f
+first-at ((b else m) ∷ tests) zero h (inl f) = f .0
+first-at ((b else m) ∷ tests) zero h (inr f) = absurd (unlike m m refl (first-number (λ n. not (eqb n m)) tests m h (f .1)))
+first-at ((b else m) ∷ tests) (suc k) h (inl f) = absurd (unlike m (numberAt tests k) (f .1) (both (not (eqb m (numberAt tests k))) (apart tests k) h .0))
+first-at ((b else m) ∷ tests) (suc k) h (inr f) = (f .0, first-at tests k (both (not (eqb m (numberAt tests k))) (apart tests k) h .1) (f .1))
+
+-- so its number is given exactly then
+pub fails-at : {A : Type 0} (tests : List Test) (v : A) (k : ℕ) → apart tests k ≡ true → (inOrder tests (gives v) ≡ refused (numberAt tests k)) ↔ FailsAt tests k
+fails-at tests v k h = (
+  (λ e. first-at tests k h (first-failed tests v (numberAt tests k) e)),
+  (λ f. fails tests (gives v) (numberAt tests k) (at-first tests k f)),
+)
 
 -- what follows from a tested answer is tested
 pub following-tests : {A B : Type 0} (tests : List Test) (a : Answer A) (next : A → Answer B) → following (inOrder tests a) next ≡ inOrder tests (following a next)

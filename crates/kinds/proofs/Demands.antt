@@ -16,6 +16,8 @@ use Rattle.kinds.specs.Cases.{localLatitude, localLongitude, wgs84Latitu
 use Rattle.kinds.specs.Kinds.{converted}
 use Rattle.kinds.specs.declared.Wgs84Latitude.{Wgs84Latitude}
 use Rattle.kinds.specs.declared.Wgs84Longitude.{Wgs84Longitude}
+use Rattle.kinds.specs.declared.AngleShift as Shift
+use Rattle.kinds.specs.declared.Height as Tall
 use Rattle.kinds.specs.declared.Refusal.{Refusal}
 use Rattle.kinds.specs.declared.Refusal.the-variants.{Length, Kind, Range, Code, Family, Area, Room, Foreign, Sheet}
 use Rattle.kinds.specs.declared.LocalLatitudeAnswer.{LocalLatitudeAnswer}
@@ -124,6 +126,13 @@ wgs84-latitude-by-number a b h = ap (λ (x : ℤ). record { 0 = x }) h
 
 pub wgs84-longitude-by-number : (a b : Wgs84Longitude) → a .0 ≡ b .0 → a ≡ b
 wgs84-longitude-by-number a b h = ap (λ (x : ℤ). record { 0 = x }) h
+
+-- and so are two shifts of an angle, and two heights
+pub angle-shift-by-number : (a b : Shift.AngleShift) → a .0 ≡ b .0 → a ≡ b
+angle-shift-by-number a b h = ap (λ (x : ℤ). record { 0 = x }) h
+
+pub height-by-number : (a b : Tall.Height) → a .0 ≡ b .0 → a ≡ b
+height-by-number a b h = ap (λ (x : ℤ). record { 0 = x }) h
 
 -- two answers that say the same are the same
 pub local-latitude-determined : (a b : LocalLatitudeAnswer) → localLatitude a ≡ localLatitude b → a ≡ b

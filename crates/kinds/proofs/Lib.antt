@@ -3,6 +3,8 @@
 pub mod Answers
 -- a raw number that was tested by `within`
 pub mod Tested
+-- a range within a wider one
+pub mod Ranges
 -- a part of a list of bytes: how long it is, and byte by byte
 pub mod Bytes
 -- bytes put at the start of a lent buffer, and after those that stand there

@@ -99,7 +99,8 @@ impl LocalLatitude {
     pub fn ms(self) -> i32
         ensures { λ r. ⌜ r ≡ self .0 ⌝ }
     {
-        self.0
+        let LocalLatitude(ms) = self;
+        ms
     }
 
     // Where a shift leads. Past a pole it is not refused.
@@ -136,7 +137,8 @@ impl LocalLongitude {
     pub fn ms(self) -> i32
         ensures { λ r. ⌜ r ≡ self .0 ⌝ }
     {
-        self.0
+        let LocalLongitude(ms) = self;
+        ms
     }
 
     // Where a shift leads. Below 0 or from a turn up it is not wrapped.
@@ -160,7 +162,7 @@ impl AngleShift {
     pub const PER_MS: i64 = 100;
 
     // units in a second
-    pub const PER_SECOND: f64 = 100_000.0;
+    pub const PER_SECOND: f64 = (AngleShift::PER_MS * LocalLatitude::SECOND) as f64;
 
     // what a signed 4-byte number holds
     pub const LEAST: i64 = i32::MIN as i64;
@@ -188,7 +190,8 @@ impl AngleShift {
     pub fn units(self) -> i32
         ensures { λ r. ⌜ r ≡ self .0 ⌝ }
     {
-        self.0
+        let AngleShift(units) = self;
+        units
     }
 }
 
@@ -230,7 +233,8 @@ impl Height {
     pub fn mm(self) -> i32
         ensures { λ r. ⌜ r ≡ self .0 ⌝ }
     {
-        self.0
+        let Height(mm) = self;
+        mm
     }
 }
 
@@ -259,7 +263,8 @@ impl Wgs84Latitude {
     pub fn units(self) -> i64
         ensures { λ r. ⌜ r ≡ self .0 ⌝ }
     {
-        self.0
+        let Wgs84Latitude(units) = self;
+        units
     }
 }
 
@@ -288,7 +293,8 @@ impl Wgs84Longitude {
     pub fn units(self) -> i64
         ensures { λ r. ⌜ r ≡ self .0 ⌝ }
     {
-        self.0
+        let Wgs84Longitude(units) = self;
+        units
     }
 }
 

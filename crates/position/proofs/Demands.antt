@@ -3,27 +3,27 @@
 use mathlib.Core.Path.{_≡_, refl, sym, ap, _∙_, subst}
 use mathlib.Core.Bool.{Bool, true, false, _&&_, and-true, and-assoc}
 use mathlib.Core.List.{List, [], _∷_, _++_}
-use mathlib.Core.Logic.{_↔_, _⊎_}
+use mathlib.Core.Logic.{_↔_, _⊎_, inl, inr, ⊎-elim}
 use Prim.Native.Nat.{ℕ, _<_, _≤_, _^_}
 use native.Mathlib.Omega.{arith}
 use lib.Dec.{eqb, leb}
 use lib.IntN.{ℤ, pos}
 use lib.ListN.{length, take, drop, replicate}
 use lib.Seq.{take-at}
-use borrow.Author.Tests.{le-leb}
+use borrow.Author.Tests.{eq-eqb, ne-eqb, eqb-true, eqb-false, le-leb}
 use Rattle.whole.specs.Places.{fromPlaces}
-use Rattle.kinds.specs.Answer.{Answer, gives, refused, placed, lent}
-use Rattle.kinds.proofs.Answers.{same-value, passed}
-use Rattle.position.specs.Text.{Coordinate, latitude, longitude, fullStop, places, textLength, inRange, isLetter, isDigit, formed, ms, digitOf, allDigits, number, degrees, minutes, seconds, thousandths, letter, isAngle, inSixties, angle, signed, noZeroSouth, rightKinds, rightRanges, read, text, write}
+use Rattle.kinds.specs.Answer.{Answer, gives, refused, lent}
+use Rattle.kinds.proofs.Answers.{one-of, first-failed, fails-at}
+use Rattle.kinds.proofs.Demands.{written-where, unwritten-where}
+use Rattle.position.specs.Text.{Coordinate, latitude, longitude, fullStop, places, textLength, inRange, isLetter, isDigit, formed, ms, digitOf, allDigits, number, degrees, minutes, seconds, thousandths, letter, isAngle, inSixties, angle, signed, noZeroSouth, rightKinds, rightRanges, value, readTests, read, text, writeTests, write}
 use Rattle.position.proofs.Bytes.{by-bytes}
 use Rattle.position.proofs.Trip as trip
-use Rattle.position.proofs.Refusals as refusals
 
 -- ---- 'Writing needs 11 or 12 bytes of a lent buffer'
 -- a number in range is written where there is room for its text
 pub writes : (k : Coordinate) (x : ℤ) (room : ℕ) → inRange k x ≡ true → textLength k ≤ room → write k x room ≡ gives (text k x)
 unfolding write
-writes k x room h r = simp (h, le-leb (length (text k x)) room (omega (arith, trip.text-length k x)))
+writes k x room h r = written-where (writeTests k x) (text k x) room refl (text k x) .1 ((h, tt), (omega (arith, trip.text-length k x), refl))
 
 -- which is 11 bytes for a latitude and 12 for a longitude
 pub text-length : (k : Coordinate) (x : ℤ) → length (text k x) ≡ textLength k
@@ -37,10 +37,9 @@ text-reads k x h = trip.written-reads k x h
 -- what was written for a number is its text
 pub written-is : (k : Coordinate) (x : ℤ) (room : ℕ) {t : List ℕ} → write k x room ≡ gives t → (inRange k x ≡ true) × (t ≡ text k x)
 unfolding write
-written-is k x room h =
-    let one = passed (inRange k x) 3 (placed (text k x) room) h in
-    let two = passed (leb (length (text k x)) room) 7 (gives (text k x)) (one .1) in
-    (one .0, sym (same-value (two .1)))
+written-is k x room {t} h =
+    let p = written-where (writeTests k x) (text k x) room refl t .0 h in
+    (p .0 .0, sym (p .1 .1))
 
 -- so it is read as that number, out of the lent buffer
 pub written-reads : (k : Coordinate) (x : ℤ) (out : List ℕ) {t : List ℕ} → write k x (length out) ≡ gives t → read k (take (textLength k) (lent (write k x (length out)) out)) ≡ gives x
@@ -106,18 +105,33 @@ accepted k t x = (of-reading, of-form)
         ∙ ap gives (f .value)
 
 -- ---- 'For a position text: 1, 2, 3': when each number is given
-pub given-1 : (k : Coordinate) (t : List ℕ) → (read k t ≡ refused 1) ↔ (length t ≡ textLength k → ⊥)
-given-1 k t = refusals.given-1 k t
+module _ (k : Coordinate) (t : List ℕ) where
+  pub given-1 : (read k t ≡ refused 1) ↔ (length t ≡ textLength k → ⊥)
+  unfolding read
+  given-1 =
+      let at = fails-at (readTests k t) (value k t) 0 refl in
+      ((λ h. eqb-false (length t) (textLength k) (at .0 h)), (λ h. at .1 (ne-eqb (length t) (textLength k) h)))
 
-pub given-2 : (k : Coordinate) (t : List ℕ) → (read k t ≡ refused 2) ↔ ((length t ≡ textLength k) × (rightKinds k t ≡ false))
-given-2 k t = refusals.given-2 k t
+  pub given-2 : (read k t ≡ refused 2) ↔ ((length t ≡ textLength k) × (rightKinds k t ≡ false))
+  unfolding read
+  given-2 =
+      let at = fails-at (readTests k t) (value k t) 1 refl in (
+        (λ h. (eqb-true (length t) (textLength k) (at .0 h .0), at .0 h .1)),
+        (λ h. at .1 (eq-eqb (length t) (textLength k) (h .0), h .1)),
+      )
 
-pub given-3 : (k : Coordinate) (t : List ℕ) → (read k t ≡ refused 3) ↔ ((length t ≡ textLength k) × ((rightKinds k t ≡ true) × (rightRanges k t ≡ false)))
-given-3 k t = refusals.given-3 k t
+  pub given-3 : (read k t ≡ refused 3) ↔ ((length t ≡ textLength k) × ((rightKinds k t ≡ true) × (rightRanges k t ≡ false)))
+  unfolding read
+  given-3 =
+      let at = fails-at (readTests k t) (value k t) 2 refl in (
+        (λ h. (eqb-true (length t) (textLength k) (at .0 h .0), at .0 h .1)),
+        (λ h. at .1 (eq-eqb (length t) (textLength k) (h .0), h .1)),
+      )
 
--- and no other is
-pub given-one-of : (k : Coordinate) (t : List ℕ) (n : ℕ) → read k t ≡ refused n → (n ≡ 1) ⊎ ((n ≡ 2) ⊎ (n ≡ 3))
-given-one-of k t n h = refusals.given-one-of k t n h
+  -- and no other is
+  pub given-one-of : (n : ℕ) → read k t ≡ refused n → (n ≡ 1) ⊎ ((n ≡ 2) ⊎ (n ≡ 3))
+  unfolding read
+  given-one-of n h = one-of (readTests k t) n (first-failed (readTests k t) (value k t) n h)
 
 -- 'a byte of a text is not of its kind', byte by byte: the kind of each place, and the bytes held against it
 abbrev pub pattern : Coordinate → List (ℕ → Bool)
@@ -135,14 +149,30 @@ byte-by-byte latitude = by-bytes 11 _ (λ f. simp (and-true, and-assoc))
 byte-by-byte longitude = by-bytes 12 _ (λ f. simp (and-true, and-assoc))
 
 -- ---- 'For writing one: 3, 7'
-pub written-3 : (k : Coordinate) (x : ℤ) (room : ℕ) → (write k x room ≡ refused 3) ↔ (inRange k x ≡ false)
-written-3 k x room = refusals.written-3 k x room
+module _ (k : Coordinate) (x : ℤ) (room : ℕ) where
+  pub written-3 : (write k x room ≡ refused 3) ↔ (inRange k x ≡ false)
+  unfolding write
+  written-3 =
+      let at = unwritten-where (writeTests k x) (text k x) room refl 3 in (
+        (λ h. ⊎-elim (⊎-elim (λ f. f .0) (λ f. absurd (f .1))) (λ p. absurd (omega (arith, p .1 .1))) (at .0 h)),
+        (λ h. at .1 (inl (inl (h, refl)))),
+      )
 
-pub written-7 : (k : Coordinate) (x : ℤ) (room : ℕ) → (write k x room ≡ refused 7) ↔ ((inRange k x ≡ true) × (room < textLength k))
-written-7 k x room = refusals.written-7 k x room
+  pub written-7 : (write k x room ≡ refused 7) ↔ ((inRange k x ≡ true) × (room < textLength k))
+  unfolding write
+  written-7 =
+      let at = unwritten-where (writeTests k x) (text k x) room refl 7 in (
+        (λ h.
+            ⊎-elim (⊎-elim (λ f. absurd (omega (arith, f .1))) (λ f. absurd (f .1)))
+            (λ p. (p .0 .0, omega (arith, trip.text-length k x, p .1 .0)))
+            (at .0 h)),
+        (λ h. at .1 (inr ((h .0, tt), (omega (arith, trip.text-length k x, h .1), refl)))),
+      )
 
-pub written-one-of : (k : Coordinate) (x : ℤ) (room n : ℕ) → write k x room ≡ refused n → (n ≡ 3) ⊎ (n ≡ 7)
-written-one-of k x room n h = refusals.written-one-of k x room n h
+  pub written-one-of : (n : ℕ) → write k x room ≡ refused n → (n ≡ 3) ⊎ (n ≡ 7)
+  unfolding write
+  written-one-of n h =
+      ⊎-elim (λ f. inl (one-of (writeTests k x) n f)) (λ p. inr (p .1 .1)) (unwritten-where (writeTests k x) (text k x) room refl n .0 h)
 
 -- the orders, at points where two refusals are due
 pub record Orders : Type 0 where

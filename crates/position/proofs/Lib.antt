@@ -13,7 +13,5 @@ pub mod Writing
 pub mod Digits
 -- a text of the form is read as its number, and a text that is read has the form
 pub mod Trip
--- when each refusal number is given
-pub mod Refusals
 -- what document 01 asks of positions as text
 pub mod Demands

@@ -8,7 +8,7 @@ use lib.IntN.{ℤ, pos, negsuc, negℤ, natAbs}
 use lib.ListN.{length, getD}
 use Rattle.whole.specs.Every.{every}
 use Rattle.whole.specs.Places.{fromPlaces, inPlaces}
-use Rattle.kinds.specs.Answer.{Answer, gives, provided, placed}
+use Rattle.kinds.specs.Answer.{Answer, gives, Test, _else_, inOrder, placed}
 use Rattle.kinds.specs.Bytes.{part}
 use Rattle.kinds.specs.Kinds.{isLatitude, isLongitude}
 
@@ -138,8 +138,16 @@ value k t = signed (letter k t) (angle k t)
 abbrev pub rightRanges : Coordinate → List ℕ → Bool
 rightRanges k t = inSixties k t && noZeroSouth (letter k t) (angle k t) && inRange k (value k t)
 
+-- 'For a position text: 1, 2, 3'
+abbrev pub readTests : Coordinate → List ℕ → List Test
+readTests k t =
+    (eqb (length t) (textLength k) else 1)
+    ∷ (rightKinds k t else 2)
+    ∷ (rightRanges k t else 3)
+    ∷ []
+
 unfoldable pub read : Coordinate → List ℕ → Answer ℤ
-read k t = provided (eqb (length t) (textLength k)) 1 (provided (rightKinds k t) 2 (provided (rightRanges k t) 3 (gives (value k t))))
+read k t = inOrder (readTests k t) (gives (value k t))
 
 -- ---- writing
 -- n ms, and a letter
@@ -149,6 +157,9 @@ spelled k n b = formed k (n / 1000 / 60 / 60) (n / 1000 / 60 % 60) (n / 1000 % 6
 abbrev pub text : Coordinate → ℤ → List ℕ
 text k x = spelled k (natAbs x) (letterOf k x)
 
--- to a lent buffer with room for so many bytes
+-- 'For writing one: 3, 7', to a lent buffer with room for so many bytes
+abbrev pub writeTests : Coordinate → ℤ → List Test
+writeTests k x = (inRange k x else 3) ∷ []
+
 unfoldable pub write : Coordinate → ℤ → ℕ → Answer (List ℕ)
-write k x room = provided (inRange k x) 3 (placed (text k x) room)
+write k x room = inOrder (writeTests k x) (placed (text k x) room)

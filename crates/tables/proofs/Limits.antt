@@ -11,7 +11,7 @@ use lib.IntN.{ℤ, pos, negsuc, natAbs, _-ℤ_}
 use lib.Signed.{leZ}
 use borrow.Author.Tests.{leb-true}
 use mir.Facts.{and-yes}
-use Rattle.whole.specs.Round.{nearest, scale}
+use Rattle.whole.specs.Round.{roundHalfUp, scale}
 use Rattle.whole.proofs.Below.{below}
 use Rattle.whole.proofs.Bools.{both}
 use Rattle.whole.proofs.Ring.{pos-sub}
@@ -39,10 +39,10 @@ abbrev farthest : ℕ → ℕ → ℕ → ℕ
 farthest centre least largest = max (centre - least) (largest - centre)
 
 abbrev pub most-u : Page → ℕ
-most-u page = nearest (page .k * farthest (page .latitude) (page .south) (page .north)) 3600000
+most-u page = roundHalfUp (page .k * farthest (page .latitude) (page .south) (page .north)) 3600000
 
 abbrev pub most-v : Page → ℕ
-most-v page = nearest (page .k * farthest (page .longitude) (page .west) (page .east)) 3600000
+most-v page = roundHalfUp (page .k * farthest (page .longitude) (page .west) (page .east)) 3600000
 
 abbrev all-keep : ℕ → ℕ → Family (List Term) → Bool
 all-keep mu mv = each (keeps scale mu mv)
@@ -82,7 +82,7 @@ away-within c s n (pos x) t =
     away c s n x (leb-true s x (h .0)) (leb-true x n (h .1))
 away-within c s n (negsuc x) t = absurd (false≢true t)
 
-from-centre-size : (k c s n : ℕ) (x : ℤ) → within (pos s) (pos n) x ≡ true → natAbs (fromCentre (pos k) (pos c) x) ≤ nearest (k * farthest c s n) 3600000
+from-centre-size : (k c s n : ℕ) (x : ℤ) → within (pos s) (pos n) x ≡ true → natAbs (fromCentre (pos k) (pos c) x) ≤ roundHalfUp (k * farthest c s n) 3600000
 from-centre-size k c s n x t = product-size (pos k) (x -ℤ pos c) (lit< tt) (le-refl k) (away-within c s n x t)
 
 -- ---- what the test shows

@@ -5,6 +5,7 @@ use Prim.Native.Nat.{ℕ, _+_, _-_}
 use lib.Dec.{eqb, ltb}
 use lib.IntN.{pos}
 use lib.ListN.{length}
+use Rattle.kinds.specs.Kinds.{isLatitude, isLongitude}
 use Rattle.equation.specs.Equation.{Term, term, amongTen}
 use Rattle.tables.specs.Page.{Page, Family, shift, geoid, ofEach, Paired}
 use Rattle.tables.specs.Rule.{inArea}
@@ -52,3 +53,9 @@ ends page =
     && not (inArea page (pos (page .north + 1)) (pos (page .east)))
     && not (inArea page (pos (page .south)) (pos (page .west - 1)))
     && not (inArea page (pos (page .north)) (pos (page .east + 1)))
+
+-- its ends are latitudes and longitudes
+abbrev pub areaInRange : Page → Bool
+areaInRange page =
+    (isLatitude (pos (page .south)) && isLatitude (pos (page .north)))
+    && (isLongitude (pos (page .west)) && isLongitude (pos (page .east)))

@@ -5,7 +5,7 @@ use native.Mathlib.Omega.{arith}
 use lib.IntN.{ℤ, pos, negℤ, natAbs, _-ℤ_, _*ℤ_}
 use lib.Signed.{_≤ℤ_}
 use Rattle.whole.specs.Round.{roundDiv}
-use Rattle.whole.proofs.Rounding.{round-neg, round-mono, round-within, round-farthest, round-only, round-determined, nearest-only}
+use Rattle.whole.proofs.Rounding.{round-neg, round-mono, round-within, round-farthest, round-only, round-determined, half-up-only}
 
 -- ---- 'All roundings go to the nearest whole number, halves away from zero'
 -- the answer is within half of n / d
@@ -30,7 +30,7 @@ unfolding roundDiv
 half-away n k {d} h e = (up, round-neg (pos n) d ∙ ap negℤ up)
   where
     up : roundDiv (pos n) d ≡ pos (k + 1)
-    up = ap pos (nearest-only n h (k + 1) (omega arith) (omega arith))
+    up = ap pos (half-up-only n h (k + 1) (omega arith) (omega arith))
 
 -- the rule has no side: -n goes as n does
 pub same-below-zero : (n : ℤ) (d : ℕ) → roundDiv (negℤ n) d ≡ negℤ (roundDiv n d)

@@ -1,14 +1,21 @@
--- A test of every one of a list: of a part, of two together, of a weaker test, of the same test said otherwise. Assumes nothing.
+-- A test of every one of a list: of one, of a part, of two together, of a weaker test, of the same test said otherwise. Assumes nothing.
 use mathlib.Core.Path.{_≡_, refl}
 use mathlib.Core.Bool.{Bool, true, _&&_}
 use mathlib.Core.List.{List, [], _∷_, _++_}
-use Prim.Native.Nat.{ℕ, zero, suc}
-use lib.ListN.{take, drop}
+use Prim.Native.Nat.{ℕ, zero, suc, _<_}
+use native.Mathlib.Omega.{arith}
+use lib.ListN.{length, take, drop, getD}
 use Rattle.whole.specs.Every.{every}
 use Rattle.whole.proofs.Bools.{both, joined}
 
 module _ {A : Type 0} (f : A → Bool) where
-  -- what every one passes, every one in a part passes
+  -- what every one passes, the one at a place passes
+  pub every-at : (l : List A) (other : A) (n : ℕ) → n < length l → every f l ≡ true → f (getD l n other) ≡ true
+  every-at [] other n k h = absurd (omega arith)
+  every-at (x ∷ l) other zero k h = both (f x) (every f l) h .0
+  every-at (x ∷ l) other (suc n) k h = every-at l other n (omega arith) (both (f x) (every f l) h .1)
+
+  -- and every one in a part passes it
   pub every-cut : (n : ℕ) (l : List A) → every f l ≡ true → (every f (take n l) ≡ true) × (every f (drop n l) ≡ true)
   every-cut zero l h = (refl, h)
   every-cut (suc n) [] h = (refl, refl)

@@ -1,4 +1,4 @@
--- The laws of division rounded to the nearest, halves away from zero: `nearest` of naturals first, then `roundDiv`.
+-- The laws of division rounded to the nearest, halves away from zero: `roundHalfUp` of naturals first, then `roundDiv`.
 -- Assumes nothing.
 use mathlib.Core.Path.{_≡_, refl, sym, ap, _∙_, subst}
 use mathlib.Core.Bool.{Bool, true, false}
@@ -9,7 +9,7 @@ use lib.Dec.{T, leb, leb→le, le→leb}
 use borrow.Author.Tests.{leb-true, leb-false}
 use lib.IntN.{ℤ, pos, negsuc, negℤ, natAbs, _+ℤ_, _-ℤ_, _*ℤ_, negℤ-negℤ, -ℤ-+ℤ-cancel}
 use lib.Signed.{mag, quotZ, remZ, nonNeg, ltZ, leZ, _≤ℤ_, leZ-yes}
-use Rattle.whole.specs.Round.{nearest, roundDiv}
+use Rattle.whole.specs.Round.{roundHalfUp, roundDiv}
 use Rattle.whole.proofs.Ring.{by-diff, pos-diff, diff-cong, ring₀, pos-sub, -ℤ-negℤ, negℤ-*ℤ}
 use Rattle.whole.proofs.Sizes.{abs-neg, abs-sub, abs-+, abs--, abs-*, abs-*-≤, abs-round, abs-zero, same-size}
 use Rattle.whole.proofs.Signs.{signed, by-sign, signed-+, signed-*-pos, signed-quot, signed-rem, signed-round, signed-mag, below-zero, from-zero}
@@ -17,56 +17,56 @@ use Rattle.whole.proofs.Signs.{signed, by-sign, signed-+, signed-*-pos,
 -- ---- two naturals
 module _ (n : ℕ) {d : ℕ} (h : 0 < d) where
   -- the quotient q is within half: 2 n - d < 2 q d ≤ 2 n + d
-  pub nearest-low : 2 * (nearest n d * d) ≤ 2 * n + d
-  nearest-low = omega (arith, div-add-mod (2 * n + d) (2 * d))
+  pub half-up-low : 2 * (roundHalfUp n d * d) ≤ 2 * n + d
+  half-up-low = omega (arith, div-add-mod (2 * n + d) (2 * d))
 
-  pub nearest-high : 2 * n < 2 * (nearest n d * d) + d
-  nearest-high = omega (arith, div-add-mod (2 * n + d) (2 * d), mod-lt (2 * n + d) {m = 2 * d} (omega arith))
+  pub half-up-high : 2 * n < 2 * (roundHalfUp n d * d) + d
+  half-up-high = omega (arith, div-add-mod (2 * n + d) (2 * d), mod-lt (2 * n + d) {m = 2 * d} (omega arith))
 
   -- and no other number is
-  pub nearest-only : (q : ℕ) → 2 * (q * d) ≤ 2 * n + d → 2 * n < 2 * (q * d) + d → nearest n d ≡ q
-  nearest-only q l k = div-eq-of-lt-le (2 * d) (omega arith) (omega arith)
+  pub half-up-only : (q : ℕ) → 2 * (q * d) ≤ 2 * n + d → 2 * n < 2 * (q * d) + d → roundHalfUp n d ≡ q
+  half-up-only q l k = div-eq-of-lt-le (2 * d) (omega arith) (omega arith)
 
 at-most : {x y : ℕ} → x < y + 1 → x ≤ y
 at-most h = omega arith
 
-pub nearest-mono : {m n d : ℕ} → 0 < d → m ≤ n → nearest m d ≤ nearest n d
-nearest-mono {m} {n} {d} h l = at-most (lt-of-mul-lt-mul-left (2 * d) (omega (arith, nearest-low m h, nearest-high n h)))
+pub half-up-mono : {m n d : ℕ} → 0 < d → m ≤ n → roundHalfUp m d ≤ roundHalfUp n d
+half-up-mono {m} {n} {d} h l = at-most (lt-of-mul-lt-mul-left (2 * d) (omega (arith, half-up-low m h, half-up-high n h)))
 
-pub nearest-exact : (q : ℕ) {d : ℕ} → 0 < d → nearest (q * d) d ≡ q
-nearest-exact q {d} h = nearest-only (q * d) h q (omega arith) (omega arith)
+pub half-up-exact : (q : ℕ) {d : ℕ} → 0 < d → roundHalfUp (q * d) d ≡ q
+half-up-exact q {d} h = half-up-only (q * d) h q (omega arith) (omega arith)
 
-pub nearest-≤ : (n : ℕ) {d : ℕ} → 0 < d → nearest n d ≤ n
-nearest-≤ n {d} h = at-most (lt-of-mul-lt-mul-left (2 * d) (omega (arith, nearest-low n h, mul-le-mul-left n h)))
+pub half-up-≤ : (n : ℕ) {d : ℕ} → 0 < d → roundHalfUp n d ≤ n
+half-up-≤ n {d} h = at-most (lt-of-mul-lt-mul-left (2 * d) (omega (arith, half-up-low n h, mul-le-mul-left n h)))
 
 -- ---- by the quotient and the remainder
 -- the remainder r, below d, holds the half d - d / 2 once or not at all
-rest-once : (r : ℕ) {d : ℕ} → 0 < d → r < d → nearest r d ≡ r / (d - d / 2)
+rest-once : (r : ℕ) {d : ℕ} → 0 < d → r < d → roundHalfUp r d ≡ r / (d - d / 2)
 rest-once r {d} h l = go (leb (d - d / 2) r) refl
   where
-    go : (t : Bool) → leb (d - d / 2) r ≡ t → nearest r d ≡ r / (d - d / 2)
+    go : (t : Bool) → leb (d - d / 2) r ≡ t → roundHalfUp r d ≡ r / (d - d / 2)
     go true e =
         let k : d - d / 2 ≤ r = leb-true (d - d / 2) r e in
-        nearest-only r h 1 (omega arith) (omega arith) ∙ sym (div-eq-of-lt-le {k = 1} (d - d / 2) (omega arith) (omega arith))
+        half-up-only r h 1 (omega arith) (omega arith) ∙ sym (div-eq-of-lt-le {k = 1} (d - d / 2) (omega arith) (omega arith))
     go false e =
         let k : r < d - d / 2 = leb-false (d - d / 2) r e in
-        nearest-only r h 0 (omega arith) (omega arith) ∙ sym (div-eq-of-lt k)
+        half-up-only r h 0 (omega arith) (omega arith) ∙ sym (div-eq-of-lt k)
 
 -- a b / d, by what d goes into a and what is left
-pub nearest-split : (a b : ℕ) {d : ℕ} → 0 < d → nearest (a * b) d ≡ a / d * b + nearest (a % d * b) d
-nearest-split a b {d} h =
-    nearest-only (a * b) h (a / d * b + nearest (a % d * b) d)
-    (omega (arith, whole, nearest-low (a % d * b) h)) (omega (arith, whole, nearest-high (a % d * b) h))
+pub half-up-split : (a b : ℕ) {d : ℕ} → 0 < d → roundHalfUp (a * b) d ≡ a / d * b + roundHalfUp (a % d * b) d
+half-up-split a b {d} h =
+    half-up-only (a * b) h (a / d * b + roundHalfUp (a % d * b) d)
+    (omega (arith, whole, half-up-low (a % d * b) h)) (omega (arith, whole, half-up-high (a % d * b) h))
   where
     whole : d * (a / d) * b + a % d * b ≡ a * b
     whole = omega (arith, ap (λ (n : ℕ). n * b) (div-add-mod a d))
 
-pub nearest-rest : (a : ℕ) {d : ℕ} → 0 < d → nearest a d ≡ a / d + a % d / (d - d / 2)
-nearest-rest a {d} h =
-    nearest-only a h (a / d + a % d / (d - d / 2))
-    (omega (arith, div-add-mod a d, same, nearest-low (a % d) h)) (omega (arith, div-add-mod a d, same, nearest-high (a % d) h))
+pub half-up-rest : (a : ℕ) {d : ℕ} → 0 < d → roundHalfUp a d ≡ a / d + a % d / (d - d / 2)
+half-up-rest a {d} h =
+    half-up-only a h (a / d + a % d / (d - d / 2))
+    (omega (arith, div-add-mod a d, same, half-up-low (a % d) h)) (omega (arith, div-add-mod a d, same, half-up-high (a % d) h))
   where
-    same : nearest (a % d) d * d ≡ a % d / (d - d / 2) * d
+    same : roundHalfUp (a % d) d * d ≡ a % d / (d - d / 2) * d
     same = ap (λ (n : ℕ). n * d) (rest-once (a % d) h (mod-lt a h))
 
 -- ---- whole numbers
@@ -74,16 +74,16 @@ pub round-neg : (n : ℤ) (d : ℕ) → roundDiv (negℤ n) d ≡ negℤ (roundD
 unfolding roundDiv
 round-neg (pos zero) d = signed-round false zero d
 round-neg (pos (suc n)) d = refl
-round-neg (negsuc n) d = sym (negℤ-negℤ (pos (nearest (suc n) d)))
+round-neg (negsuc n) d = sym (negℤ-negℤ (pos (roundHalfUp (suc n) d)))
 
 -- by a test of the sign
-pub round-below : (n : ℤ) (d : ℕ) → ltZ n (pos 0) ≡ true → roundDiv n d ≡ negℤ (pos (nearest (natAbs n) d))
+pub round-below : (n : ℤ) (d : ℕ) → ltZ n (pos 0) ≡ true → roundDiv n d ≡ negℤ (pos (roundHalfUp (natAbs n) d))
 unfolding roundDiv
-round-below n d t = subst (λ (z : ℤ). roundDiv z d ≡ negℤ (pos (nearest (natAbs z) d))) (sym (below-zero n t)) refl
+round-below n d t = subst (λ (z : ℤ). roundDiv z d ≡ negℤ (pos (roundHalfUp (natAbs z) d))) (sym (below-zero n t)) refl
 
-pub round-from : (n : ℤ) (d : ℕ) → ltZ n (pos 0) ≡ false → roundDiv n d ≡ pos (nearest (natAbs n) d)
+pub round-from : (n : ℤ) (d : ℕ) → ltZ n (pos 0) ≡ false → roundDiv n d ≡ pos (roundHalfUp (natAbs n) d)
 unfolding roundDiv
-round-from n d t = subst (λ (z : ℤ). roundDiv z d ≡ pos (nearest (natAbs z) d)) (sym (from-zero n t)) refl
+round-from n d t = subst (λ (z : ℤ). roundDiv z d ≡ pos (roundHalfUp (natAbs z) d)) (sym (from-zero n t)) refl
 
 pub round-mono : {m n : ℤ} {d : ℕ} → 0 < d → m ≤ℤ n → roundDiv m d ≤ℤ roundDiv n d
 unfolding roundDiv
@@ -99,15 +99,15 @@ round-mono {m} {n} {d} h l = go m n (l .le)
     turned (suc a) (suc b) k = le→leb b a (omega arith)
 
     go : (m n : ℤ) → T (leZ m n) → roundDiv m d ≤ℤ roundDiv n d
-    go (pos a) (pos b) t = leZ-yes (le→leb _ _ (nearest-mono h (leb→le a b t)))
+    go (pos a) (pos b) t = leZ-yes (le→leb _ _ (half-up-mono h (leb→le a b t)))
     go (pos a) (negsuc b) t = absurd t
-    go (negsuc a) (pos b) t = leZ-yes (below (nearest (suc a) d) (nearest b d))
-    go (negsuc a) (negsuc b) t = leZ-yes (turned (nearest (suc a) d) (nearest (suc b) d) (nearest-mono h (suc-le-suc (leb→le b a t))))
+    go (negsuc a) (pos b) t = leZ-yes (below (roundHalfUp (suc a) d) (roundHalfUp b d))
+    go (negsuc a) (negsuc b) t = leZ-yes (turned (roundHalfUp (suc a) d) (roundHalfUp (suc b) d) (half-up-mono h (suc-le-suc (leb→le b a t))))
 
 pub round-exact : (q : ℤ) {d : ℕ} → 0 < d → roundDiv (q *ℤ pos d) d ≡ q
 round-exact q {d} h =
     subst (λ (z : ℤ). roundDiv (z *ℤ pos d) d ≡ z) (sym (by-sign q))
-    (simp (signed-*-pos, signed-round) (ap (signed (nonNeg q)) (nearest-exact (natAbs q) h)))
+    (simp (signed-*-pos, signed-round) (ap (signed (nonNeg q)) (half-up-exact (natAbs q) h)))
 
 module _ (n : ℤ) {d : ℕ} (h : 0 < d) where
   -- the rounded quotient is within half
@@ -115,10 +115,10 @@ module _ (n : ℤ) {d : ℕ} (h : 0 < d) where
   unfolding roundDiv
   round-within = go n
     where
-      above : (a : ℕ) → 2 * natAbs (pos (nearest a d) *ℤ pos d -ℤ pos a) ≤ d
+      above : (a : ℕ) → 2 * natAbs (pos (roundHalfUp a d) *ℤ pos d -ℤ pos a) ≤ d
       above a =
-          rw (pos-sub (nearest a d * d) a)
-          (omega (arith, abs-sub (nearest a d * d) a (d / 2) (omega (arith, nearest-low a h)) (omega (arith, nearest-high a h))))
+          rw (pos-sub (roundHalfUp a d * d) a)
+          (omega (arith, abs-sub (roundHalfUp a d * d) a (d / 2) (omega (arith, half-up-low a h)) (omega (arith, half-up-high a h))))
 
       turned : (x y : ℤ) → natAbs (negℤ x *ℤ pos d -ℤ negℤ y) ≡ natAbs (x *ℤ pos d -ℤ y)
       turned x y =
@@ -126,7 +126,7 @@ module _ (n : ℤ) {d : ℕ} (h : 0 < d) where
 
       go : (n : ℤ) → 2 * natAbs (roundDiv n d *ℤ pos d -ℤ n) ≤ d
       go (pos a) = above a
-      go (negsuc a) = omega (arith, turned (pos (nearest (suc a) d)) (pos (suc a)), above (suc a))
+      go (negsuc a) = omega (arith, turned (pos (roundHalfUp (suc a) d)) (pos (suc a)), above (suc a))
 
   -- what is within half is no farther from zero
   pub round-farthest : (q : ℤ) → 2 * natAbs (q *ℤ pos d -ℤ n) ≤ d → natAbs q ≤ natAbs (roundDiv n d)
@@ -165,14 +165,14 @@ module _ (n : ℤ) {d : ℕ} (h : 0 < d) where
 pub mag-round : (n : ℤ) {d : ℕ} → 0 < d → mag (roundDiv n d) ≤ mag n
 mag-round n {d} h =
     subst (λ (z : ℤ). mag (roundDiv z d) ≤ mag z) (sym (by-sign n))
-    (rw signed-round (signed-mag (nonNeg n) _ _ (nearest-≤ (natAbs n) h)))
+    (rw signed-round (signed-mag (nonNeg n) _ _ (half-up-≤ (natAbs n) h)))
 
 -- of a product, by the limits of its factors
-pub product-size : (p u : ℤ) {a b d : ℕ} → 0 < d → natAbs p ≤ a → natAbs u ≤ b → natAbs (roundDiv (p *ℤ u) d) ≤ nearest (a * b) d
-product-size p u h k l = rw abs-round (nearest-mono h (abs-*-≤ p u k l))
+pub product-size : (p u : ℤ) {a b d : ℕ} → 0 < d → natAbs p ≤ a → natAbs u ≤ b → natAbs (roundDiv (p *ℤ u) d) ≤ roundHalfUp (a * b) d
+product-size p u h k l = rw abs-round (half-up-mono h (abs-*-≤ p u k l))
 
 -- ---- by the quotient and the remainder, as the code works
 pub round-by-rest : (n : ℤ) {d : ℕ} → 0 < d → quotZ n (pos d) +ℤ quotZ (remZ n (pos d)) (pos (d - d / 2)) ≡ roundDiv n d
 round-by-rest n {d} h =
     subst (λ (z : ℤ). quotZ z (pos d) +ℤ quotZ (remZ z (pos d)) (pos (d - d / 2)) ≡ roundDiv z d) (sym (by-sign n))
-    (simp (signed-quot, signed-rem, signed-+, signed-round) (ap (signed (nonNeg n)) (sym (nearest-rest (natAbs n) h))))
+    (simp (signed-quot, signed-rem, signed-+, signed-round) (ap (signed (nonNeg n)) (sym (half-up-rest (natAbs n) h))))

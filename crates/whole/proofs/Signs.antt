@@ -8,7 +8,7 @@ use lib.Dec.{T, ltb→lt}
 use borrow.Author.Tests.{ltb-true}
 use lib.IntN.{ℤ, pos, negsuc, negℤ, natAbs, _+ℤ_, _-ℤ_, _*ℤ_, +ℤ-idr, +ℤ-idl}
 use lib.Signed.{mag, quotZ, remZ, nonNeg, ltZ, _<ℤ_}
-use Rattle.whole.specs.Round.{nearest, roundDiv}
+use Rattle.whole.specs.Round.{roundHalfUp, roundDiv}
 use Rattle.whole.proofs.Ring.{ -ℤ-negℤ}
 use Rattle.whole.proofs.Sizes.{abs-neg}
 
@@ -70,17 +70,17 @@ signed-rem true a k = refl
 signed-rem false zero k = zero-signed (zero-mod k)
 signed-rem false (suc a) k = refl
 
-nearest-zero : (d : ℕ) → nearest 0 d ≡ 0
-nearest-zero zero = refl
-nearest-zero (suc d) = div-eq-of-lt (less d)
+half-up-zero : (d : ℕ) → roundHalfUp 0 d ≡ 0
+half-up-zero zero = refl
+half-up-zero (suc d) = div-eq-of-lt (less d)
   where
     less : (d : ℕ) → 2 * 0 + suc d < 2 * suc d
     less d = omega arith
 
-pub signed-round : (s : Bool) (a d : ℕ) → roundDiv (signed s a) d ≡ signed s (nearest a d)
+pub signed-round : (s : Bool) (a d : ℕ) → roundDiv (signed s a) d ≡ signed s (roundHalfUp a d)
 unfolding roundDiv
 signed-round true a d = refl
-signed-round false zero d = zero-signed (nearest-zero d)
+signed-round false zero d = zero-signed (half-up-zero d)
 signed-round false (suc a) d = refl
 
 -- of two of one sign, the smaller is held where the larger is

@@ -6,7 +6,7 @@ use native.Mathlib.Nat.{mul-le-mul}
 use native.Mathlib.Omega.{arith}
 use lib.Dec.{ltb, ltb→lt, nltb→le}
 use lib.IntN.{ℤ, pos, negsuc, negℤ, natAbs, subℕ, _+ℤ_, _-ℤ_, _*ℤ_, -ℤ-+ℤ-cancel, +ℤ-idl}
-use Rattle.whole.specs.Round.{nearest, roundDiv}
+use Rattle.whole.specs.Round.{roundHalfUp, roundDiv}
 use Rattle.whole.proofs.Ring.{cond-case}
 
 pub abs-neg : (x : ℤ) → natAbs (negℤ x) ≡ natAbs x
@@ -57,7 +57,7 @@ abs-* (negsuc a) (negsuc b) = refl
 pub abs-*-≤ : (x y : ℤ) {a b : ℕ} → natAbs x ≤ a → natAbs y ≤ b → natAbs (x *ℤ y) ≤ a * b
 abs-*-≤ x y h k = omega (arith, abs-* x y, mul-le-mul h k)
 
-pub abs-round : (x : ℤ) (d : ℕ) → natAbs (roundDiv x d) ≡ nearest (natAbs x) d
+pub abs-round : (x : ℤ) (d : ℕ) → natAbs (roundDiv x d) ≡ roundHalfUp (natAbs x) d
 unfolding roundDiv
 abs-round (pos n) d = refl
-abs-round (negsuc n) d = abs-neg (pos (nearest (suc n) d))
+abs-round (negsuc n) d = abs-neg (pos (roundHalfUp (suc n) d))

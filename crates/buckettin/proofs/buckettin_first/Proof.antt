@@ -2,7 +2,7 @@
 use mathlib.Core.Path.{_∙_}
 use lib.IntN.{ℤ}
 use Rattle.datum.specs.Point.{firstOf}
-use Rattle.floating.specs.Floats.{floatingOf, zero}
+use Rattle.floating.specs.Floats.{floatingOf, floatZero}
 use Rattle.floating.proofs.Calls.{came}
 use borrow.Author.Needs.{needs}
 use Rattle.buckettin.proofs.buckettin_first.Statement.{statement}
@@ -14,7 +14,7 @@ first-requires c κs = search needs
 returns : tie.Need-returns
 returns c =
     let s = c .before in
-    c .first .ensures ∙ came (s .fits .code) (s .fits .latitude-ms) (s .fits .longitude-ms) (λ (code : ℤ) latitude longitude. firstOf zero (floatingOf code latitude longitude))
+    c .first .ensures ∙ came (s .fits .code) (s .fits .latitude-ms) (s .fits .longitude-ms) (λ (code : ℤ) latitude longitude. firstOf floatZero (floatingOf code latitude longitude))
 
 pub buckettin-first-spec : {M : Type 1} → statement M
 buckettin-first-spec = tie.close (tie.spec first-requires returns)

@@ -2,7 +2,7 @@
 use mathlib.Core.Path.{_∙_}
 use lib.IntN.{ℤ}
 use Rattle.datum.specs.Point.{secondOf}
-use Rattle.floating.specs.Floats.{floatingOf, zero}
+use Rattle.floating.specs.Floats.{floatingOf, floatZero}
 use Rattle.floating.proofs.Calls.{came}
 use borrow.Author.Needs.{needs}
 use Rattle.buckettin.proofs.buckettin_second.Statement.{statement}
@@ -14,7 +14,7 @@ second-requires c κs = search needs
 returns : tie.Need-returns
 returns c =
     let s = c .before in
-    c .second .ensures ∙ came (s .fits .code) (s .fits .latitude-ms) (s .fits .longitude-ms) (λ (code : ℤ) latitude longitude. secondOf zero (floatingOf code latitude longitude))
+    c .second .ensures ∙ came (s .fits .code) (s .fits .latitude-ms) (s .fits .longitude-ms) (λ (code : ℤ) latitude longitude. secondOf floatZero (floatingOf code latitude longitude))
 
 pub buckettin-second-spec : {M : Type 1} → statement M
 buckettin-second-spec = tie.close (tie.spec second-requires returns)

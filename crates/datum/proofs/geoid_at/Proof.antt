@@ -1,7 +1,5 @@
 -- `datum::geoid_at` meets its contract. Assumes nothing.
 use mathlib.Core.Path.{_≡_, sym, ap, _∙_, subst}
-use mir.Syntax.{w64}
-use mir.Val.{SFits}
 use Rattle.whole.proofs.Words.{of}
 use Rattle.kinds.specs.Answer.{gives}
 use Rattle.tables.specs.Page.{Page}
@@ -35,34 +33,28 @@ module _ (c : tie.After-placed) where
   said = c .placed .ensures ∙ (λ i. placeOf (c .before .frame .ensures i) (of (s .fits .latitude) .reads i) (of (s .fits .longitude) .reads i))
 
 -- the place that it gave
-module _ (c : tie.After-struct-told) where
+module _ (c : tie.After-known-told) where
   abbrev p : tie.After-placed
-  p = c .before .before .before .before
+  p = c .before .before .before
 
   abbrev place : Place
-  place = c .before .before .place .given .0 .0
+  place = c .before .place .given .0 .0
 
-  placed : placeOf (frameOf (page p)) (s p .args .latitude) (s p .args .longitude) ≡ gives (place .u, place .v)
-  placed = sym (said p) ∙ ap placeAnswer (c .before .before .place .given .1)
-
-  u-fits : SFits w64 (place .u)
-  u-fits = record { sfits = c .struct-told .given .0 .1 }
-
-  v-fits : SFits w64 (place .v)
-  v-fits = record { sfits = c .struct-told .given .1 .0 .1 }
+  placed : placeOf (frameOf (page p)) (s p .args .latitude) (s p .args .longitude) ≡ gives (place .u .0, place .v .0)
+  placed = sym (said p) ∙ ap placeAnswer (c .before .place .given .1)
 
 powers-requires : tie.Need-powers-requires
-powers-requires c κs = x-asks (page (p c)) (s (p c) .args .latitude) (s (p c) .args .longitude) (placed c) (geoid-keeps (s (p c) .args .datum)) (u-fits c) (v-fits c)
+powers-requires c κs = x-asks (page (p c)) (s (p c) .args .latitude) (s (p c) .args .longitude) (placed c) (geoid-keeps (s (p c) .args .datum))
 
 powers-requires-2 : tie.Need-powers-requires-2
 powers-requires-2 c κs =
-    let t = c .before .before in
-    y-asks (page (p t)) (s (p t) .args .latitude) (s (p t) .args .longitude) (placed t) (geoid-keeps (s (p t) .args .datum)) (u-fits t) (v-fits t)
+    let t = c .before in
+    y-asks (page (p t)) (s (p t) .args .latitude) (s (p t) .args .longitude) (placed t) (geoid-keeps (s (p t) .args .datum))
 
 evaluated-requires : tie.Need-evaluated-requires
 evaluated-requires c κs =
-    let t = c .before .before .before in
-    work-asks (page (p t)) (s (p t) .args .latitude) (s (p t) .args .longitude) (placed t) (geoid-keeps (s (p t) .args .datum)) (u-fits t) (v-fits t) (c .before .before .powers .ensures) (c .powers2 .ensures)
+    let t = c .before .before in
+    work-asks (page (p t)) (s (p t) .args .latitude) (s (p t) .args .longitude) (placed t) (geoid-keeps (s (p t) .args .datum)) (c .before .powers .ensures) (c .powers2 .ensures)
 
 enum-known-why : tie.Need-enum-known-why
 enum-known-why c = search needs
@@ -70,8 +62,8 @@ enum-known-why c = search needs
 returns : tie.Need-returns
 returns c =
     let w = c .before in
-    let t = w .before .before .before in
-    answered (page (p t)) (s (p t) .args .latitude) (s (p t) .args .longitude) (placed t) (geoid-keeps (s (p t) .args .datum)) (u-fits t) (v-fits t) (w .before .before .powers .ensures) (w .powers2 .ensures) (c .evaluated .ensures)
+    let t = w .before .before in
+    answered (page (p t)) (s (p t) .args .latitude) (s (p t) .args .longitude) (placed t) (geoid-keeps (s (p t) .args .datum)) (w .before .powers .ensures) (w .powers2 .ensures) (c .evaluated .ensures)
 
 returns-2 : tie.Need-returns-2
 returns-2 c =

@@ -98,8 +98,8 @@ returns-3 c =
     let ms2 = c .before .before .before .ms2 in
     placed (frame h) (given .latitude) (given .longitude) (latitude-in (t h) .0) (longitude-in h .0)
     (sym (in-area h) ∙ c .before .before .before .before .before .before .before .before .if1 .taken)
-    (distance (given .frame .k) (given .frame .latitude) (given .latitude) (record { sfits = fields .1 .1 .0 .1 }) (record { sfits = fields .0 .1 }) (record { sfits = ms .ok }) (ms .ensures ∙ latitude-in (t h) .1) (record { sfits = first .from-centre .ok }) (first .from-centre .ensures))
-    (distance (given .frame .k) (given .frame .longitude) (given .longitude) (record { sfits = fields .1 .1 .0 .1 }) (record { sfits = fields .1 .0 .1 }) (record { sfits = ms2 .ok }) (ms2 .ensures ∙ longitude-in h .1) (record { sfits = c .from-centre2 .ok }) (c .from-centre2 .ensures))
+    (distance (given .frame .k) (given .frame .latitude) (given .latitude) (record { sfits = fields .1 .1 .0 .1 }) (record { sfits = fields .0 .1 }) (record { sfits = ms .ok }) (ms .ensures ∙ latitude-in (t h) .1) (first .from-centre .ensures))
+    (distance (given .frame .k) (given .frame .longitude) (given .longitude) (record { sfits = fields .1 .1 .0 .1 }) (record { sfits = fields .1 .0 .1 }) (record { sfits = ms2 .ok }) (ms2 .ensures ∙ longitude-in h .1) (c .from-centre2 .ensures))
 
 returns-4 : tie.Need-returns-4
 returns-4 c =

@@ -14,9 +14,9 @@ use lib.Seq.{take-suc-set, take-all}
 use lib.IntN.{ℤ, pos, natAbs}
 use lib.Signed.{ltZ}
 use mir.Syntax.{w64}
-use mir.Val.{ofZ, toZ}
+use mir.Val.{SFits, ofZ, toZ}
 use mir.Facts.{toZ-ofZ}
-use Rattle.whole.specs.Round.{nearest, scale}
+use Rattle.whole.specs.Round.{roundHalfUp, scale}
 use Rattle.whole.proofs.Below.{below}
 use Rattle.whole.proofs.Signs.{signed}
 use Rattle.whole.proofs.Words.{Holds, to, from-unsigned, negated, negated-asks, neg-fits}
@@ -34,10 +34,10 @@ record Inv (z : ℤ) (out : List ℤ) (held k : ℕ) : Type 0 where
   done : take k out ≡ powersOf scale z k
 
 abbrev Inv-loop : tie.InvT-loop
-Inv-loop u size out₀ power₀ k₀ out held k = Inv (toZ w64 u) out held k
+Inv-loop first size out₀ power₀ k₀ out held k = Inv (toZ w64 first) out held k
 
 abbrev μ-loop : tie.MeasureT-loop
-μ-loop u size out₀ power₀ k₀ out held k = 10 - k
+μ-loop first size out₀ power₀ k₀ out held k = 10 - k
 
 size-requires : tie.Need-size-requires Inv-loop μ-loop
 size-requires c κs = search needs
@@ -49,14 +49,18 @@ loop-holds : tie.Need-loop-holds Inv-loop μ-loop
 unfolding power powersOf
 loop-holds c = record { low = omega arith; high = omega arith; last = c .size .ensures; long = refl; done = refl }
 
+-- 64 bits hold u
+held : (c : tie.After-struct-told Inv-loop μ-loop) → SFits w64 (c .before .args .u .0)
+held c = record { sfits = c .struct-told .given .0 .1 }
+
 -- u, as the code reads it back
 abbrev z : tie.Start Inv-loop μ-loop → ℤ
-z s = toZ w64 (ofZ w64 (s .args .u))
+z s = toZ w64 (ofZ w64 (s .args .u .0))
 
 -- the size of the next power, of the one that is held
 module _ (c : tie.In-loop Inv-loop μ-loop) where
   abbrev s : tie.Start Inv-loop μ-loop
-  s = c .before .before .before
+  s = c .before .before .before .before
 
   abbrev k : ℕ
   k = c .before .loop .k
@@ -68,7 +72,7 @@ module _ (c : tie.In-loop Inv-loop μ-loop) where
   size-is = c .before .before .size .ensures
 
   size-small : natAbs (z s) ≤ 1000000000
-  size-small = rw (toZ-ofZ (s .fits .u)) (s .pre)
+  size-small = rw (toZ-ofZ (held (c .before .before .before))) (s .pre)
 
   small : (n : ℕ) → n < 10 → limit scale (natAbs (z s)) n ≤ 1000000000000000000
   small n h =
@@ -76,10 +80,10 @@ module _ (c : tie.In-loop Inv-loop μ-loop) where
       (leb→le (limit scale 1000000000 n) 1000000000000000000
       (below 10 (λ n. leb (limit scale 1000000000 n) 1000000000000000000) tt n h))
 
-  next : nearest (c .before .loop .power * c .before .before .size .result) scale ≡ limit scale (natAbs (z s)) k
+  next : roundHalfUp (c .before .loop .power * c .before .before .size .result) scale ≡ limit scale (natAbs (z s)) k
   next =
       let back : k - 1 + 1 ≡ k = omega (arith, inv .low) in
-      (λ i. nearest (inv .last i * size-is i) scale)
+      (λ i. roundHalfUp (inv .last i * size-is i) scale)
       ∙ sym (limit-next scale (natAbs (z s)) (k - 1) (omega (arith, inv .low)))
       ∙ ap (limit scale (natAbs (z s))) back
 
@@ -150,7 +154,7 @@ returns c =
     let ten : c .before .loop .k ≡ 10 = omega (arith, i .high) in
     sym (take-all (c .before .loop .k) (c .before .loop .out) (omega (arith, i .long)))
     ∙ i .done
-    ∙ (λ j. powersOf scale (toZ-ofZ (c .before .before .before .fits .u) j) (ten j))
+    ∙ (λ j. powersOf scale (toZ-ofZ (held (c .before .before .before)) j) (ten j))
 
 pub powers-spec : {M : Type 1} → statement M
 powers-spec =

@@ -7,7 +7,7 @@ use lib.IntN.{pos, natAbs}
 use lib.Signed.{ltZ}
 use mir.Syntax.{w64}
 use mir.Val.{ofZ}
-use Rattle.whole.specs.Round.{nearest, scale}
+use Rattle.whole.specs.Round.{roundHalfUp, scale}
 use Rattle.whole.proofs.Rounding.{round-below, round-from}
 use Rattle.whole.proofs.Words.{Holds, of, to, from-unsigned, zero-is, negated, negated-asks, tested, neg-fits, sized}
 use Rattle.whole.proofs.rounded.Statement.{statement}
@@ -23,7 +23,7 @@ module _ (c : tie.After-size) where
   size-is : c .size .result ≡ a
   size-is = c .size .ensures ∙ ap natAbs (n-is (c .before) .reads)
 
-  q-is : Holds w64 ((c .size .result + 50000000) / scale) (pos (nearest a scale))
+  q-is : Holds w64 ((c .size .result + 50000000) / scale) (pos (roundHalfUp a scale))
   q-is = to (ap pos (omega (arith, size-is))) (from-unsigned (omega (arith, size-is, sized _ (c .before .fits .n))))
 
 size-requires : tie.Need-size-requires

@@ -5,8 +5,8 @@ use native.Mathlib.Nat.{mul-le-mul}
 use native.Mathlib.Omega.{arith}
 use borrow.Author.Needs.{needs}
 use lib.Dec.{lit<}
-use Rattle.whole.specs.Round.{nearest, scale}
-use Rattle.whole.proofs.Rounding.{nearest-split}
+use Rattle.whole.specs.Round.{roundHalfUp, scale}
+use Rattle.whole.proofs.Rounding.{half-up-split}
 use Rattle.whole.proofs.scaled.Statement.{statement}
 use Rattle.whole.proofs.scaled.Tie as tie
 
@@ -32,7 +32,7 @@ module _ (c : tie.Start) where
   rest-is : r ≡ p % scale
   rest-is = omega arith
 
-  half-added : (n : ℕ) → (n + 50000000) / scale ≡ nearest n scale
+  half-added : (n : ℕ) → (n + 50000000) / scale ≡ roundHalfUp n scale
   half-added n = omega arith
 
 cast-q : tie.Need-cast-q
@@ -73,8 +73,8 @@ add-result-2 c = record { fits = omega (arith, first-small c, rest-small c) }
 
 returns : tie.Need-returns
 returns c =
-    ap (λ (n : ℕ). q c * u c + n) (half-added c (r c * u c) ∙ ap (λ (n : ℕ). nearest (n * u c) scale) (rest-is c))
-    ∙ sym (nearest-split (p c) (u c) (lit< tt))
+    ap (λ (n : ℕ). q c * u c + n) (half-added c (r c * u c) ∙ ap (λ (n : ℕ). roundHalfUp (n * u c) scale) (rest-is c))
+    ∙ sym (half-up-split (p c) (u c) (lit< tt))
 
 pub scaled-spec : {M : Type 1} → statement M
 scaled-spec =
