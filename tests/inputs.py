@@ -78,12 +78,21 @@ def ends_at_closed_output(is_ignored):
     return (done.returncode, done.stderr) == ended and taken <= lines.READ
 
 
-def ends_unread(path, flags):
-    """An input that cannot be read is the end, with nothing printed but a word of it on standard error."""
-    unread = os.open(path, flags)
+def ends_unread(unread, answered=b''):
+    """An input that cannot be read any further is the end, with nothing printed for it but a word of it on standard error."""
     done = subprocess.run(COMMAND, stdin=unread, stdout=subprocess.PIPE, stderr=subprocess.PIPE, timeout=WAIT)
     os.close(unread)
-    return (done.returncode, done.stdout, done.stderr) == (0, b'', b'lines: standard input could not be read\n')
+    return (done.returncode, done.stdout, done.stderr) == (0, answered, b'lines: standard input could not be read\n')
+
+
+def ends_at_later_read():
+    """The first read gives what the pipe has, and the next, which would have to wait for more, fails. The line that is begun by then
+    is not answered."""
+    reading, writing = os.pipe2(os.O_NONBLOCK | os.O_CLOEXEC)
+    os.write(writing, INPUT + GOOD)
+    right = ends_unread(reading, OUTPUT)
+    os.close(writing)
+    return right
 
 
 def is_right_on_stack():
@@ -128,8 +137,9 @@ CHECKS = {
     'a line past the limit': lambda: is_right_at_limit(b'', INPUT),
     'a closed output': lambda: ends_at_closed_output(False),
     'a closed output, SIGPIPE ignored': lambda: ends_at_closed_output(True),
-    'a folder as input': lambda: ends_unread('/', os.O_RDONLY),
-    'an input open for writing alone': lambda: ends_unread(os.devnull, os.O_WRONLY),
+    'a folder as input': lambda: ends_unread(os.open('/', os.O_RDONLY)),
+    'an input open for writing alone': lambda: ends_unread(os.open(os.devnull, os.O_WRONLY)),
+    'an input that fails at a later read': ends_at_later_read,
     f'{STACK} KiB of stack': is_right_on_stack,
     'no heap': has_no_heap,
 }

@@ -1,2 +1,2 @@
--- a piece that is answered part by part, a count of bytes that were read, and what is left to be read
+-- bytes that are answered, a part after the other and to the end of an input, and what a read gave
 mod Pieces

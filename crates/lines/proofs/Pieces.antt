@@ -1,74 +1,156 @@
--- A piece of the input that is answered part by part, as the output has room: what is begun after the parts is what is begun after
--- the piece. A count of bytes that were read, and what is left to be read. Assumes nothing.
-use mathlib.Core.Path.{_≡_, sym, ap, _∙_, subst}
-use mathlib.Core.Bool.{cond}
-use mathlib.Core.List.{List}
-use Prim.Native.Nat.{ℕ, _+_, _-_, _<_, _≤_}
-use native.Mathlib.Nat.{pos-of-ne-zero}
+-- Bytes that are answered one part after the other are answered together, to the end of the input; and what a read gave. Assumes
+-- nothing.
+use mathlib.Core.Path.{_≡_, refl, sym, ap, _∙_, subst}
+use mathlib.Core.Bool.{true, false, false≢true}
+use mathlib.Core.List.{List, [], _∷_, _++_, flatMap, flatten, append-nil}
+use Prim.Native.Nat.{ℕ, _+_, _-_, _*_, _<_, _≤_}
 use native.Mathlib.Omega.{arith}
-use lib.ListN.{length, take, drop, length-take, length-drop}
-use lib.Seq.{take-all, take-add}
-use lib.Dec.{eqb}
-use borrow.Author.Tests.{eqb-false}
-use Rattle.whole.proofs.Bools.{by-test}
-use Rattle.stream.specs.Stream.{begunAfter, held, kept, takenOf}
+use lib.IntN.{ℤ, pos, negsuc}
+use lib.ListN.{length, take, drop, length-append, length-take, length-drop}
+use lib.Seq.{take-all, take-at, take-take, take-add}
+use lib.Signed.{ltZ}
+use Rattle.io.specs.Counts.{clamped}
+use Rattle.libc.specs.Io.{Moved}
+use Rattle.stream.specs.Stream.{ended, begunAfter, limit, output, held, kept, started, after, takenOf, answers, closing}
 use Rattle.stream.specs.declared.Begun.{Begun}
+use Rattle.stream.specs.declared.Reading.{Reading}
 use Rattle.stream.proofs.Keeping.{held-kept, kept-cut}
-use Rattle.stream.proofs.Printing.{begun-kept}
+use Rattle.stream.proofs.Printing.{answers-pieces, answers-short, answers-kept, begun-kept}
 use Rattle.stream.proofs.Lines.{begun-pieces}
-use Rattle.stream.proofs.Demands.{takes-some}
+use Rattle.stream.proofs.Demands.{in-pieces, takes-some, takes-within}
+use Rattle.lines.specs.Answered.{Answered}
 
--- a state keeps what is begun after the first bytes of the piece
-abbrev pub Keeps : List ℕ → List ℕ → Begun → ℕ → Type 0
-Keeps begun piece line from = kept (held line) ≡ kept (begunAfter begun (take from piece))
+-- ---- two lines that are kept alike go on alike
+module _ (l m : List ℕ) (e : kept l ≡ kept m) (bytes : List ℕ) where
+  same-answers : answers l bytes ≡ answers m bytes
+  same-answers = sym (answers-kept l bytes) ∙ ap (λ (b : Begun). answers (held b) bytes) e ∙ answers-kept m bytes
 
--- kept once or twice
-kept-held : (l : List ℕ) → kept (held (kept l)) ≡ kept l
-kept-held l = ap kept (held-kept l) ∙ kept-cut l
+  same-line : kept (begunAfter l bytes) ≡ kept (begunAfter m bytes)
+  same-line = sym (begun-kept l bytes) ∙ ap (λ (b : Begun). kept (begunAfter (held b) bytes)) e ∙ begun-kept m bytes
 
-module _ (begun piece : List ℕ) (line : Begun) where
-  pub at-first : begun ≡ held line → Keeps begun piece line 0
-  unfolding begunAfter
-  at-first e = ap kept (sym e)
+-- ---- bytes that are answered
+pub none : (reading : Reading) → Answered reading [] reading 0
+unfolding begunAfter answers ended flatMap
+none reading = record { line = refl; left = omega arith; count = refl }
 
+-- and more after them
+pub more : {before mid new : Reading} {xs ys : List ℕ} {m n : ℕ} → Answered before xs mid m → Answered mid ys new n → Answered before (xs ++ ys) new (m + n)
+more {before} {mid} {xs = xs} {ys = ys} a b =
+    let begun : List ℕ = held (before .begun) in
+    let same = same-answers (held (mid .begun)) (begunAfter begun xs) (a .line) ys in
+    record {
+      line = b .line ∙ same-line (held (mid .begun)) (begunAfter begun xs) (a .line) ys ∙ ap kept (sym (begun-pieces begun xs ys));
+      left = omega (arith, a .left, b .left, length-append xs ys);
+      count =
+          omega (arith, a .count, b .count, ap length same, ap length (answers-pieces begun xs ys), length-append (answers begun xs) (answers (begunAfter begun xs) ys));
+    }
+
+-- so few are handed over for them that they can be counted
+pub few : {before new : Reading} {bytes : List ℕ} {n : ℕ} → Answered before bytes new n → before .left ≤ limit → n ≤ 26 + 10 * limit
+few {before} {bytes = bytes} a most = omega (arith, a .left, a .count, answers-short (held (before .begun)) bytes)
+
+-- ---- text that was put at the start of a buffer
+pub at-start : (text buffer out : List ℕ) (put : ℕ) → put ≡ length text → out ≡ text ++ drop put buffer → take put out ≡ text
+at-start text buffer out put is-put is-out = ap (take put) is-out ∙ take-at text (drop put buffer) put (sym is-put)
+
+-- ---- bytes of which n are fed, where there is so much room for the answers
+module _ (reading new : Reading) (bytes : List ℕ) (room n : ℕ) (is-n : n ≡ takenOf (take (reading .left) bytes) room) where
+  pub fed-answered : new ≡ after reading (take n bytes) → Answered reading (take n bytes) new (length (answers (held (reading .begun)) (take n bytes)))
+  unfolding after
+  fed-answered is-new =
+      let begun : List ℕ = begunAfter (held (reading .begun)) (take n bytes) in
+      let within : n ≤ reading .left = subst (λ (k : ℕ). k ≤ reading .left) (sym is-n) (takes-within (reading .left) bytes room) in
+      record {
+        line = ap (λ (r : Reading). kept (held (r .begun))) is-new ∙ ap kept (held-kept begun) ∙ kept-cut begun;
+        left = omega (arith, within, ap (λ (r : Reading). r .left) is-new, length-take n bytes);
+        count = refl;
+      }
+
+-- ---- a piece that is answered up to a place, with h bytes handed over
+module _ (piece : List ℕ) (from : ℕ) {before mid : Reading} {h : ℕ} (a : Answered before (take from piece) mid h) where
   -- at the end it is the whole piece
-  pub at-last : (from : ℕ) → Keeps begun piece line from → length piece ≤ from → kept (held line) ≡ kept (begunAfter begun piece)
-  at-last from h all = h ∙ ap (λ (l : List ℕ). kept (begunAfter begun l)) (take-all from piece all)
+  pub at-last : length piece ≤ from → Answered before piece mid h
+  at-last all = subst (λ (l : List ℕ). Answered before l mid h) (take-all from piece all) a
 
-  -- n bytes of the rest are fed, where there is so much room for the answers, and leave the state new
-  module _ (from n room : ℕ) (is-n : n ≡ takenOf (take (length piece - from) (drop from piece)) room) where
-    rest-is : take (length piece - from) (drop from piece) ≡ drop from piece
+  -- n bytes of the rest are fed
+  module _ (room n : ℕ) (is-n : n ≡ takenOf (take (mid .left) (take (length piece - from) (drop from piece))) room) where
+    abbrev rest : List ℕ
+    rest = take (length piece - from) (drop from piece)
+
+    rest-is : rest ≡ drop from piece
     rest-is = take-all (length piece - from) (drop from piece) (omega (arith, length-drop from piece))
 
-    pub no-further : from ≤ length piece → from + n ≤ length piece
+    rest-long : length rest ≡ length piece - from
+    rest-long = ap length rest-is ∙ length-drop from piece
+
+    pub some-fed : from < length piece → length piece ≤ before .left → 36 ≤ room → 0 < n
+    some-fed h many enough =
+        let left : 0 < mid .left = omega (arith, a .left, length-take from piece) in
+        subst (λ (k : ℕ). 0 < k) (sym is-n) (takes-some (mid .left) rest room left (omega (arith, rest-long)) enough)
+
+    pub none-past : from ≤ length piece → from + n ≤ length piece
     unfolding takenOf
-    no-further h = omega (arith, is-n, ap length rest-is, length-drop from piece, h)
+    none-past h = omega (arith, is-n, length-take (mid .left) rest, rest-long)
 
-    pub further : from < length piece → 36 ≤ room → 0 < n
-    further h enough = subst (λ (k : ℕ). 0 < k) (sym is-n) (takes-some (take (length piece - from) (drop from piece)) room (omega (arith, ap length rest-is, length-drop from piece, h)) enough)
+    -- as they are lent to be handed over
+    lent-is : take (from + n - from) (drop from piece) ≡ take n rest
+    lent-is = let e : from + n - from ≡ n = omega arith in ap (λ (k : ℕ). take k (drop from piece)) e ∙ ap (take n) (sym rest-is)
 
-    pub one-more : (new : Begun) → Keeps begun piece line from → new ≡ kept (begunAfter (held line) (take n (take (length piece - from) (drop from piece)))) → Keeps begun piece new (from + n)
-    one-more new h is-new =
-        ap (λ (s : Begun). kept (held s)) is-new
-        ∙ kept-held (begunAfter (held line) (take n (take (length piece - from) (drop from piece))))
-        ∙ ap (λ (l : List ℕ). kept (begunAfter (held line) (take n l))) rest-is
-        ∙ sym (begun-kept (held line) (take n (drop from piece)))
-        ∙ ap (λ (s : Begun). kept (begunAfter (held s) (take n (drop from piece)))) h
-        ∙ begun-kept (begunAfter begun (take from piece)) (take n (drop from piece))
-        ∙ ap kept (sym (begun-pieces begun (take from piece) (take n (drop from piece))))
-        ∙ ap (λ (l : List ℕ). kept (begunAfter begun l)) (sym (take-add from n piece))
+    pub put-is : (buffer out : List ℕ) (put : ℕ) → put ≡ length (answers (held (mid .begun)) (take n rest)) → out ≡ answers (held (mid .begun)) (take n rest) ++ drop put buffer
+        → take put out ≡ answers (held (mid .begun)) (take (from + n - from) (drop from piece))
+    put-is buffer out put is-put is-out = at-start _ buffer out put is-put is-out ∙ ap (answers (held (mid .begun))) (sym lent-is)
 
--- a count of the first m bytes
-pub count-within : (m r : ℕ) (l : List ℕ) → r ≤ length (take m l) → (r ≤ length l) × (r ≤ m)
-count-within m r l h = (omega (arith, h, length-take m l), omega (arith, h, length-take m l))
+    pub onward : (new : Reading) (k : ℕ) → new ≡ after mid (take n rest) → k ≡ length (answers (held (mid .begun)) (take (from + n - from) (drop from piece)))
+        → Answered before (take (from + n) piece) new (h + k)
+    onward new k is-new is-k =
+        let count : length (answers (held (mid .begun)) (take n rest)) ≡ k = sym (is-k ∙ ap (λ (l : List ℕ). length (answers (held (mid .begun)) l)) lent-is) in
+        let part = subst (λ (k : ℕ). Answered mid (take n rest) new k) count (fed-answered mid new rest room n is-n is-new) in
+        let e : take from piece ++ take n rest ≡ take (from + n) piece = ap (λ (l : List ℕ). take from piece ++ take n l) rest-is ∙ sym (take-add from n piece) in
+        subst (λ (l : List ℕ). Answered before l new (h + k)) e (more a part)
 
--- what is left is less at every turn
-pub less-left : {left count r : ℕ} → 0 < left → count ≤ left → r ≡ cond (eqb count 0) 0 (left - count) → r < left
-less-left {left} {count} {r} some few is-r =
-    by-test (eqb count 0)
-    (λ t.
-    let e : r ≡ 0 = simp (is-r, t) in
-    omega (arith, e, some))
-    (λ t.
-    let e : r ≡ left - count = simp (is-r, t) in
-    omega (arith, e, some, few, pos-of-ne-zero (eqb-false count 0 t)))
+-- ---- what a read gave
+pub counted : (got : ℤ) (most count : ℕ) → Moved most got → ltZ got (pos 0) ≡ false → count ≡ clamped got most → got ≡ pos count
+counted (pos k) most count moved t is-count = let e : k ≡ count = omega (arith, moved, is-count) in ap pos e
+counted (negsuc k) most count moved t is-count = absurd (false≢true (sym t))
+
+-- one that failed did not give nothing
+pub not-none : (got : ℤ) → ltZ got (pos 0) ≡ true → got ≡ pos 0 → ⊥
+not-none got t e = false≢true (subst (λ (z : ℤ). ltZ z (pos 0) ≡ true) e t)
+
+-- ---- the end of the input
+-- the bytes that `finish` takes are those of a line feed
+pub last-fed : (begun : List ℕ) (room n : ℕ) → n ≡ takenOf (closing begun) room → 36 ≤ room → (n ≤ 1) × (take n (10 ∷ []) ≡ closing begun)
+unfolding closing takenOf
+last-fed [] room n is-n enough = let e : n ≡ 0 = omega arith in (omega arith, ap (λ (k : ℕ). take k (10 ∷ [])) e)
+last-fed (x ∷ begun) room n is-n enough = let e : n ≡ 1 = omega arith in (omega arith, ap (λ (k : ℕ). take k (10 ∷ [])) e)
+
+pub last-put : (begun : List ℕ) (room n : ℕ) → n ≡ takenOf (closing begun) room → 36 ≤ room → (buffer out : List ℕ) (put : ℕ) → put ≡ length (answers begun (take n (closing begun)))
+    → out ≡ answers begun (take n (closing begun)) ++ drop put buffer → take put out ≡ answers begun (take n (10 ∷ []))
+last-put begun room n is-n enough buffer out put is-put is-out =
+    let e : take n (closing begun) ≡ take n (10 ∷ []) = ap (take n) (sym (last-fed begun room n is-n enough .1)) ∙ take-take n n (10 ∷ []) (omega arith) in
+    at-start _ buffer out put is-put is-out ∙ ap (answers begun) e
+
+-- a line that is kept ends as it does
+ends-kept : (l : List ℕ) → answers (held (kept l)) (closing (held (kept l))) ≡ answers l (closing l)
+unfolding closing
+ends-kept l = answers-kept l (closing (held (kept l))) ∙ ap (λ (m : List ℕ). answers l (closing m)) (held-kept l) ∙ ap (answers l) (cut l)
+  where
+    cut : (l : List ℕ) → closing (take 27 l) ≡ closing l
+    cut [] = refl
+    cut (x ∷ l) = refl
+
+-- so with the last line an input is answered whole
+pub whole : {reading : Reading} {handed bytes : ℕ} (input : List ℕ) → Answered started input reading handed
+    → bytes ≡ length (answers (held (reading .begun)) (closing (held (reading .begun)))) → handed + bytes ≡ length (output input)
+unfolding flatten after
+whole {reading} input a is-bytes =
+    let begun : List ℕ = held (kept []) in
+    let line : List ℕ = held (reading .begun) in
+    let cut : take limit input ≡ input = take-all limit input (omega (arith, a .left)) in
+    let state : kept (begunAfter begun (take limit input)) ≡ kept line = ap (λ (l : List ℕ). kept (begunAfter begun l)) cut ∙ sym (a .line) in
+    let all : output input ≡ answers begun input ++ answers line (closing line) =
+    ap output (sym (append-nil input))
+    ∙ sym (in-pieces (input ∷ []))
+    ∙ (λ i. answers begun (cut i) ++ answers (held (state i)) (closing (held (state i))))
+    ∙ ap (λ (l : List ℕ). answers begun input ++ l) (ends-kept line) in
+    omega (arith, a .count, is-bytes, ap length all, length-append (answers begun input) (answers line (closing line)))

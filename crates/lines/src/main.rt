@@ -1,31 +1,32 @@
-// The line program: answers each line of standard input on standard output, and reads at most 100,000,000 bytes. Where reading
-// fails, or writing does and no signal has ended it, it says so on standard error and stops.
+// The line program: answers each line of standard input on standard output. Where reading fails, or writing does and no signal has
+// ended it, it says so on standard error and stops. No contract says which bytes are read and written: those here say what becomes
+// of the bytes that stand in a buffer after a read, and how many bytes are handed over to be written for them.
 use libc::STDERR_FILENO;
 use libc::STDIN_FILENO;
 use libc::STDOUT_FILENO;
-use stream::Begun;
+use stream::Reading;
 use whole::least;
 ghost use mathlib.Core.Path.{_≡_};
-ghost use mathlib.Core.Bool.{true, false, cond};
-ghost use Prim.Native.Nat.{_-_, _≤_};
-ghost use lib.Dec.{eqb};
+ghost use mathlib.Core.Bool.{true, false};
+ghost use Prim.Native.Nat.{_<_, _≤_};
+ghost use lib.IntN.{pos};
 ghost use lib.ListN.{length, take};
-ghost use Rattle.stream.specs.Stream.{begunAfter, held, kept};
+ghost use Rattle.libc.specs.Io.{Moved};
+ghost use Rattle.stream.specs.Stream.{limit, held, answers, closing};
+ghost use Rattle.lines.specs.Answered.{Answered, Ended};
 
-// the most that is read of an input
-const LIMIT: usize = 100_000_000;
-
-// The line that is begun, and whether all was written.
-struct Answered {
-    begun: Begun,
-    is_written: bool,
+// The reading after some bytes, how many these are, how many were handed over for them, and whether to stop at once.
+struct Turn {
+    reading: Reading,
+    count: usize,
+    handed: usize,
+    is_failed: bool,
 }
 
-// The line that is begun after a read, how many bytes were read, which is none at the end, and whether to stop at once.
-struct Turn {
-    begun: Begun,
-    count: usize,
-    is_failed: bool,
+// How many bytes were handed over to be written, and whether all were.
+struct Handed {
+    bytes: usize,
+    is_written: bool,
 }
 
 fn main() {
@@ -35,90 +36,130 @@ fn main() {
     run(&mut input, &mut output);
 }
 
-fn run(input: &mut [u8], output: &mut [u8])
-    requires { ⌜ 36 ≤ length (now output) ⌝ }
+// Reads and answers until no byte comes or none may be taken any more. The answer counts the bytes of the last read, and those that
+// were handed over in all.
+fn run(input: &mut [u8], output: &mut [u8]) -> Turn
+    requires { ⌜ (0 < length (now input)) × (36 ≤ length (now output)) ⌝ }
+    ensures { λ r. ⌜ (r .«is_failed» ≡ false → Ended r) ⌝ }
 {
-    let mut begun = Begun::none();
-    let mut left = LIMIT;
-    while 0 < left {
-        let turn = read(begun, left, input, output);
+    let mut reading = Reading::start();
+    let mut handed = 0;
+    loop {
+        let turn = read(reading, input, output);
         if turn.is_failed {
-            return;
+            return turn;
         }
-        begun = turn.begun;
-        left = left_after(left, turn.count);
+        reading = turn.reading;
+        handed += turn.handed;
+        let count = turn.count;
+        if least(count, reading.left()) == 0 {
+            let last = end(reading, output);
+            return Turn {
+                reading,
+                count,
+                handed: handed + last.bytes,
+                is_failed: !last.is_written,
+            };
+        }
     }
-    let fed = stream::finish(begun, output);
-    let put = fed.put;
-    write(&output[..put]);
 }
 
-// How much is left to be read after so many bytes: nothing at the end of the input, where none came.
-fn left_after(left: usize, count: usize) -> usize
-    requires { ⌜ count ≤ left ⌝ }
-    ensures { λ r. ⌜ r ≡ cond (eqb count 0) 0 (left - count) ⌝ }
+// Reads once, at most so many bytes as may be taken, and answers the lines that end in them.
+fn read(reading: Reading, input: &mut [u8], output: &mut [u8]) -> Turn
+    requires { ⌜ (0 < length (now input)) × (36 ≤ length (now output)) ⌝ }
+    requires { ⌜ (0 < reading .left) × (reading .left ≤ limit) ⌝ }
+    ensures { λ r. ⌜ (r .«is_failed» ≡ false → (r .count ≤ length (now (input .exit))) × Answered reading (take (r .count) (now (input .exit))) (r .reading) (r .handed)) ⌝ }
 {
-    if count == 0 { 0 } else { left - count }
-}
-
-// Reads once, at most so many bytes as are left, and answers the lines that end in them.
-fn read(begun: Begun, left: usize, input: &mut [u8], output: &mut [u8]) -> Turn
-    requires { ⌜ 36 ≤ length (now output) ⌝ }
-    ensures { λ r. ⌜ r .count ≤ left ⌝ }
-    ensures { λ r. ⌜ (r .«is_failed» ≡ false → kept (held (r .begun)) ≡ kept (begunAfter (held begun) (take (r .count) (now (input .exit))))) ⌝ }
-{
-    let most = least(left, input.len());
+    let most = least(reading.left(), input.len());
     let got = libc::read(STDIN_FILENO, &mut input[..most]);
+    turned(got, reading, &input[..most], output)
+}
+
+// What becomes of a read into a piece that is not empty: the bytes that it gave are answered, unless it failed. To give none, at
+// the end of the input, is no failure.
+fn turned(got: isize, reading: Reading, piece: &[u8], output: &mut [u8]) -> Turn
+    requires { ⌜ (0 < length (now piece)) × (36 ≤ length (now output)) ⌝ }
+    requires { ⌜ (length (now piece) ≤ reading .left) × (reading .left ≤ limit) ⌝ }
+    requires { ⌜ Moved (length (now piece)) got ⌝ }
+    ensures { λ r. ⌜ (got ≡ pos 0 → r .«is_failed» ≡ false) ⌝ }
+    ensures { λ r. ⌜ (r .«is_failed» ≡ false → (got ≡ pos (r .count)) × Answered reading (take (r .count) (now (piece .entry))) (r .reading) (r .handed)) ⌝ }
+{
     if got < 0 {
         io::write_all(STDERR_FILENO, b"lines: standard input could not be read\n");
         return Turn {
-            begun,
+            reading,
             count: 0,
+            handed: 0,
             is_failed: true,
         };
     }
-    let count = io::count(got, &input[..most]);
-    let answered = answer(begun, &input[..count], output);
-    let begun = answered.begun;
-    Turn {
-        begun,
-        count,
-        is_failed: !answered.is_written,
-    }
+    let count = io::count(got, piece);
+    answer(reading, &piece[..count], output)
 }
 
 // Answers the lines that end in a piece of the input, as much of it at a time as the output has room for.
-fn answer(begun: Begun, piece: &[u8], output: &mut [u8]) -> Answered
+fn answer(reading: Reading, piece: &[u8], output: &mut [u8]) -> Turn
     requires { ⌜ 36 ≤ length (now output) ⌝ }
-    ensures { λ r. ⌜ (r .«is_written» ≡ true → kept (held (r .begun)) ≡ kept (begunAfter (held begun) (now (piece .entry)))) ⌝ }
+    requires { ⌜ (length (now piece) ≤ reading .left) × (reading .left ≤ limit) ⌝ }
+    ensures { λ r. ⌜ (length (now (piece .entry)) ≡ 0 → r .«is_failed» ≡ false) ⌝ }
+    ensures { λ r. ⌜ (r .«is_failed» ≡ false → (r .count ≡ length (now (piece .entry))) × Answered reading (now (piece .entry)) (r .reading) (r .handed)) ⌝ }
 {
-    let mut line = begun;
+    let mut next = reading;
     let mut from = 0;
+    let mut handed = 0;
     while from < piece.len() {
-        let fed = stream::feed(line, &piece[from..], output);
+        let fed = stream::feed(next, &piece[from..], output);
         let put = fed.put;
-        if !write(&output[..put]) {
-            return Answered {
-                begun: line,
-                is_written: false,
+        let to = from + fed.taken;
+        let written = write(next, &piece[from..to], &output[..put]);
+        if !written.is_written {
+            return Turn {
+                reading: next,
+                count: from,
+                handed,
+                is_failed: true,
             };
         }
-        line = fed.begun;
-        from += fed.taken;
+        handed += written.bytes;
+        next = fed.reading;
+        from = to;
     }
-    Answered {
-        begun: line,
-        is_written: true,
+    Turn {
+        reading: next,
+        count: from,
+        handed,
+        is_failed: false,
     }
 }
 
-fn write(answers: &[u8]) -> bool {
-    let is_written = io::write_all(STDOUT_FILENO, answers);
+// Ends the input: answers a last line with bytes but no line feed.
+fn end(reading: Reading, output: &mut [u8]) -> Handed
+    requires { ⌜ 36 ≤ length (now output) ⌝ }
+    ensures { λ r. ⌜ r .bytes ≤ length (now (output .exit)) ⌝ }
+    ensures { λ r. ⌜ (r .«is_written» ≡ true → r .bytes ≡ length (answers (held (reading .begun)) (closing (held (reading .begun))))) ⌝ }
+{
+    let line_feed = [b'\n'];
+    let fed = stream::finish(reading, output);
+    let taken = fed.taken;
+    let put = fed.put;
+    write(reading, &line_feed[..taken], &output[..put])
+}
+
+// Hands over the answers of the lines that end in some bytes, all of them and from the start.
+fn write(reading: Reading, bytes: &[u8], put: &[u8]) -> Handed
+    requires { ⌜ now put ≡ answers (held (reading .begun)) (now bytes) ⌝ }
+    ensures { λ r. ⌜ r .bytes ≤ length (now (put .entry)) ⌝ }
+    ensures { λ r. ⌜ (r .«is_written» ≡ true → r .bytes ≡ length (answers (held (reading .begun)) (now (bytes .entry)))) ⌝ }
+{
+    let is_written = io::write_all(STDOUT_FILENO, put);
     if !is_written {
         io::write_all(
             STDERR_FILENO,
             b"lines: standard output could not be written\n",
         );
     }
-    is_written
+    Handed {
+        bytes: put.len(),
+        is_written,
+    }
 }

@@ -3,10 +3,10 @@
 use mathlib.Core.Path.{_≡_, refl, sym, ap, _∙_}
 use mathlib.Core.Bool.{true}
 use mathlib.Core.List.{List, [], _∷_, _++_, flatMap, flatten, append-nil, append-assoc}
-use Prim.Native.Nat.{ℕ, suc, _+_, _*_, _<_, _≤_}
+use Prim.Native.Nat.{ℕ, suc, _+_, _-_, _*_, _<_, _≤_, min}
 use native.Mathlib.Omega.{arith}
-use lib.ListN.{length, take}
-use lib.Seq.{take-take, take-all, append-snoc}
+use lib.ListN.{length, take, length-append, length-take}
+use lib.Seq.{take-take, take-all, take-nil, append-snoc}
 use Rattle.whole.specs.Every.{every}
 use Rattle.whole.specs.Places.{fromPlaces, inPlaces}
 use Rattle.whole.specs.Round.{roundDiv}
@@ -16,9 +16,11 @@ use Rattle.equation.specs.Powers.{power, powersOf}
 use Rattle.equation.specs.Equation.{sum}
 use Rattle.decimal.specs.Decimal.{unpadded, decimal, printedNumber}
 use Rattle.line.specs.Line.{lineFeed, answerLine, lineOf, unbroken}
-use Rattle.stream.specs.Stream.{refusedLine, printed, terminated, ended, begunAfter, last, lines, output, held, kept, takenOf, answers, closing, fed}
+use Rattle.stream.specs.Stream.{refusedLine, printed, terminated, ended, begunAfter, last, lines, limit, output, held, kept, started, after, takenOf, answers, closing, fed}
+use Rattle.stream.specs.declared.Reading.{Reading}
+use Rattle.stream.specs.declared.Fed.{Fed}
 use Rattle.stream.proofs.Lines as law
-use Rattle.stream.proofs.Keeping.{held-kept}
+use Rattle.stream.proofs.Keeping.{held-kept, take-min}
 use Rattle.stream.proofs.Printing as print
 use Rattle.stream.proofs.Feeding as feeding
 
@@ -111,50 +113,75 @@ as-many (l ∷ ls) =
 
 -- ---- an input that comes in pieces: where it is cut makes no difference
 -- what two calls of `feed` promise together of what they take is what one promises that takes both
-pub in-two : (begun xs ys : List ℕ) → (answers begun xs ++ answers (held (kept (begunAfter begun xs))) ys ≡ answers begun (xs ++ ys))
-    × (kept (begunAfter (held (kept (begunAfter begun xs))) ys) ≡ kept (begunAfter begun (xs ++ ys)))
-in-two begun xs ys = (
-  ap (λ (l : List ℕ). answers begun xs ++ l) (print.answers-kept (begunAfter begun xs) ys) ∙ sym (print.answers-pieces begun xs ys),
-  print.begun-kept (begunAfter begun xs) ys ∙ ap kept (sym (law.begun-pieces begun xs ys)),
-)
+pub in-two : (reading : Reading) (xs ys : List ℕ)
+    → (answers (held (reading .begun)) xs ++ answers (held (after reading xs .begun)) ys ≡ answers (held (reading .begun)) (xs ++ ys))
+    × (after (after reading xs) ys ≡ after reading (xs ++ ys))
+unfolding after
+in-two reading xs ys =
+    let begun : List ℕ = held (reading .begun) in
+    let line = print.begun-kept (begunAfter begun xs) ys ∙ ap kept (sym (law.begun-pieces begun xs ys)) in
+    let left : reading .left - length xs - length ys ≡ reading .left - length (xs ++ ys) = omega (arith, length-append xs ys) in
+    (ap (λ (l : List ℕ). answers begun xs ++ l) (print.answers-kept (begunAfter begun xs) ys) ∙ sym (print.answers-pieces begun xs ys), λ i. record { begun = line i; left = left i })
 
-fed-from : (line : List ℕ) (pieces : List (List ℕ)) → fed (kept line) pieces ≡ answers line (flatten pieces) ++ flatMap printed (last (begunAfter line (flatten pieces)))
-unfolding flatten answers ended begunAfter flatMap closing
-fed-from line [] = print.answers-kept line (closing (held (kept line))) ∙ ap (λ (l : List ℕ). answers line (closing l)) (held-kept line) ∙ ends line
+fed-from : (line : List ℕ) (left : ℕ) (pieces : List (List ℕ)) → fed (record { begun = kept line; left = left }) pieces
+    ≡ answers line (take left (flatten pieces)) ++ flatMap printed (last (begunAfter line (take left (flatten pieces))))
+unfolding flatten answers ended begunAfter flatMap closing after
+fed-from line left [] =
+    print.answers-kept line (closing (held (kept line)))
+    ∙ ap (λ (l : List ℕ). answers line (closing l)) (held-kept line)
+    ∙ ends line
+    ∙ ap (λ (l : List ℕ). answers line l ++ flatMap printed (last (begunAfter line l))) (sym (take-nil left))
   where
     ends : (line : List ℕ) → answers line (closing (take 27 line)) ≡ flatMap printed (last line)
     ends [] = refl
     ends (byte ∷ rest) = refl
-fed-from line (piece ∷ pieces) =
-    (λ i. print.answers-kept line piece i ++ fed (print.begun-kept line piece i) pieces)
-    ∙ ap (λ (l : List ℕ). answers line piece ++ l) (fed-from (begunAfter line piece) pieces)
-    ∙ sym (append-assoc (answers line piece) (answers (begunAfter line piece) (flatten pieces)) _)
-    ∙ (λ i. sym (print.answers-pieces line piece (flatten pieces)) i ++ flatMap printed (last (sym (law.begun-pieces line piece (flatten pieces)) i)))
+fed-from line left (piece ∷ pieces) =
+    let p : List ℕ = take left piece in
+    let q : List ℕ = take (left - length p) (flatten pieces) in
+    (λ i. print.answers-kept line p i ++ fed (record { begun = print.begun-kept line p i; left = left - length p }) pieces)
+    ∙ ap (λ (l : List ℕ). answers line p ++ l) (fed-from (begunAfter line p) (left - length p) pieces)
+    ∙ sym (append-assoc (answers line p) (answers (begunAfter line p) q) _)
+    ∙ (λ i. sym (print.answers-pieces line p q) i ++ flatMap printed (last (sym (law.begun-pieces line p q) i)))
+    ∙ ap (λ (l : List ℕ). answers line l ++ flatMap printed (last (begunAfter line l))) (law.first-pieces left piece (flatten pieces))
 
--- so any pieces are answered as the lines of all of them together
-pub in-pieces : (pieces : List (List ℕ)) → fed (kept []) pieces ≡ flatMap printed (lines (flatten pieces))
+-- so any pieces are answered as the input that they are together, up to the limit
+pub in-pieces : (pieces : List (List ℕ)) → fed started pieces ≡ output (flatten pieces)
 unfolding answers
-in-pieces pieces = fed-from [] pieces ∙ sym (print.flat-pieces (ended [] (flatten pieces)) (last (begunAfter [] (flatten pieces))))
+in-pieces pieces =
+    let input : List ℕ = take limit (flatten pieces) in
+    fed-from [] limit pieces ∙ sym (print.flat-pieces (ended [] input) (last (begunAfter [] input)))
 
 -- and pieces of an input up to the limit as the input is
-pub of-input : (input : List ℕ) (pieces : List (List ℕ)) → flatten pieces ≡ take 100000000 input → fed (kept []) pieces ≡ output input
-of-input input pieces e = in-pieces pieces ∙ ap (λ (l : List ℕ). flatMap printed (lines l)) e
+pub of-input : (input : List ℕ) (pieces : List (List ℕ)) → flatten pieces ≡ take limit input → fed started pieces ≡ output input
+of-input input pieces e = in-pieces pieces ∙ ap output e ∙ bytes-past input
 
--- ---- a call takes what there is room for
-module _ (bytes : List ℕ) (room : ℕ) where
-  -- at least a byte, where there is one and room for the longest line
-  pub takes-some : 0 < length bytes → 36 ≤ room → 0 < takenOf bytes room
+-- ---- a call takes what may be taken and there is room for
+module _ (left : ℕ) (bytes : List ℕ) (room : ℕ) where
+  -- at least a byte, where there is one, and room for the longest line
+  pub takes-some : 0 < left → 0 < length bytes → 36 ≤ room → 0 < takenOf (take left bytes) room
   unfolding takenOf
-  takes-some h k = omega arith
+  takes-some some h k = omega (arith, length-take left bytes)
+
+  -- never more than may be
+  pub takes-within : takenOf (take left bytes) room ≤ left
+  unfolding takenOf
+  takes-within = omega (arith, length-take left bytes)
 
   -- what it puts fits
-  pub puts-within : (begun : List ℕ) → length (answers begun (take (takenOf bytes room) bytes)) ≤ room
-  puts-within begun = feeding.fits begun bytes room (takenOf bytes room) (omega arith)
+  pub puts-within : (begun : List ℕ) → length (answers begun (take (takenOf (take left bytes) room) bytes)) ≤ room
+  puts-within begun = feeding.fits begun bytes room (takenOf (take left bytes) room) (feeding.no-more left room bytes refl .1)
 
-  -- a piece that there is room for is taken whole
-  pub takes-all : 26 + 10 * length bytes ≤ room → take (takenOf bytes room) bytes ≡ bytes
+  -- a piece that there is room for is taken whole, as far as it may be
+  pub takes-all : 26 + 10 * length bytes ≤ room → take (takenOf (take left bytes) room) bytes ≡ take left bytes
   unfolding takenOf
-  takes-all h = take-all (takenOf bytes room) bytes (omega arith)
+  takes-all h =
+      let e : takenOf (take left bytes) room ≡ min left (length bytes) = omega (arith, length-take left bytes) in
+      ap (λ (n : ℕ). take n bytes) e ∙ take-min left bytes
+
+-- ---- 'that two permitted answers coincide is proved'
+-- two answers that say the same are the same
+pub fed-determined : (a b : Fed) → a .reading ≡ b .reading → a .taken ≡ b .taken → a .put ≡ b .put → a ≡ b
+fed-determined a b same-reading same-taken same-put = λ i. record { reading = same-reading i; taken = same-taken i; put = same-put i }
 
 -- ---- document 01's example
 pub example : output

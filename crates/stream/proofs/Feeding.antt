@@ -15,8 +15,9 @@ use Rattle.whole.proofs.Bools.{by-test}
 use Rattle.kinds.specs.Bytes.{part}
 use Rattle.kinds.proofs.Writing.{grown}
 use Rattle.line.specs.Line.{lineFeed, unbroken}
-use Rattle.stream.specs.Stream.{printed, ended, begunAfter, held, kept, takenOf, answers, closing}
+use Rattle.stream.specs.Stream.{printed, ended, begunAfter, held, kept, after, atEnd, takenOf, answers, closing}
 use Rattle.stream.specs.declared.Begun.{Begun}
+use Rattle.stream.specs.declared.Reading.{Reading}
 use Rattle.stream.specs.declared.Fed.{Fed}
 use Rattle.stream.proofs.Keeping.{held-kept}
 use Rattle.stream.proofs.Lines.{begun-pieces, goes-on, begins-anew}
@@ -48,18 +49,20 @@ unfolding takenOf answers ended flatMap
 fits begun bytes room zero h = omega arith
 fits begun bytes room (suc n) h = omega (arith, answers-short begun (take (suc n) bytes), length-take (suc n) bytes)
 
--- ---- what is promised of a call
-abbrev Took : List ℕ → List ℕ → List ℕ → List ℕ → Fed → Type 0
-Took begun bytes out₀ out fed =
-    (fed .taken ≡ takenOf bytes (length out₀))
-    × ((fed .begun ≡ kept (begunAfter begun (take (fed .taken) bytes)))
-    × ((fed .put ≡ length (answers begun (take (fed .taken) bytes)))
-    × ((out ≡ answers begun (take (fed .taken) bytes) ++ drop (fed .put) out₀)
-    × ((fed .put ≤ length out) × (fed .put ≡ length (take (fed .put) out))))))
+-- ---- how many bytes are taken
+-- no more than may be, than there are and than there is room for
+module _ (left room : ℕ) (bytes : List ℕ) {taken : ℕ} where
+  pub taken-is : {few most : ℕ} → few ≡ min left (length bytes) → most ≡ (room - 26) / 10 → taken ≡ min few most → taken ≡ takenOf (take left bytes) room
+  unfolding takenOf
+  taken-is is-few is-most is-taken = is-taken ∙ (λ i. min ((is-few ∙ sym (length-take left bytes)) i) (is-most i))
+
+  pub no-more : taken ≡ takenOf (take left bytes) room → (taken ≤ left) × (taken ≤ takenOf bytes room)
+  unfolding takenOf
+  no-more is-taken = (omega (arith, length-take left bytes), omega (arith, length-take left bytes))
 
 -- ---- what holds where the bytes before `from` were read: the next line feed is at `end`, or none is and `end` is `taken`
 pub record Good (bytes begun out₀ : List ℕ) (taken : ℕ) (out line : List ℕ) (from put end : ℕ) : Type 0 where
-  pub enough : taken ≡ takenOf bytes (length out₀)
+  pub enough : taken ≤ takenOf bytes (length out₀)
   pub within : from ≤ taken
   pub found : end ≡ from + indexOf lineFeed (slice from taken bytes)
   pub most : end ≤ taken
@@ -67,12 +70,12 @@ pub record Good (bytes begun out₀ : List ℕ) (taken : ℕ) (out line : List �
   pub text : out ≡ answers begun (take from bytes) ++ drop put out₀
   pub line-is : line ≡ begunAfter begun (take from bytes)
 
-pub start : (bytes begun out₀ : List ℕ) {taken most end : ℕ} → taken ≡ min (length bytes) most → most ≡ (length out₀ - 26) / 10
+pub start : (bytes begun out₀ : List ℕ) {taken end : ℕ} → taken ≤ takenOf bytes (length out₀)
     → end ≡ 0 + indexOf lineFeed (slice 0 taken bytes) → end ≤ taken → Good bytes begun out₀ taken out₀ begun 0 0 end
-unfolding takenOf answers ended flatMap begunAfter
-start bytes begun out₀ is-taken is-most found most =
+unfolding answers ended flatMap begunAfter
+start bytes begun out₀ enough found most =
     record {
-      enough = is-taken ∙ ap (min (length bytes)) is-most;
+      enough = enough;
       within = omega arith;
       found = found;
       most = most;
@@ -103,7 +106,7 @@ module _ {bytes begun out₀ : List ℕ} {taken : ℕ} {out line : List ℕ} {fr
 
   pub long : length out ≡ length out₀
   long =
-      let room = fits begun bytes (length out₀) from (subst (λ (n : ℕ). from ≤ n) (good .enough) (good .within)) in
+      let room = fits begun bytes (length out₀) from (omega (arith, good .enough, good .within)) in
       omega (arith, ap length (good .text), length-append (answers begun (take from bytes)) (drop put out₀), length-drop put out₀, good .count)
 
   -- ---- a line ends
@@ -146,7 +149,7 @@ module _ {bytes begun out₀ : List ℕ} {taken : ℕ} {out line : List ℕ} {fr
 
     -- its answer has room
     room : put + length (printed (line ++ between from end bytes)) ≤ length out₀
-    room = omega (arith, count-next, fits begun bytes (length out₀) (end + 1) (subst (λ (n : ℕ). end + 1 ≤ n) (good .enough) (omega arith)))
+    room = omega (arith, count-next, fits begun bytes (length out₀) (end + 1) (omega (arith, good .enough)))
 
     pub lent-room : length (printed (line ++ between from end bytes)) ≤ length (take (length out - put) (drop put out))
     lent-room = omega (arith, room, long, length-take (length out - put) (drop put out), length-drop put out)
@@ -190,27 +193,60 @@ module _ {bytes begun out₀ : List ℕ} {taken : ℕ} {out line : List ℕ} {fr
         ∙ goes-on (begunAfter begun (take from bytes)) (between from end bytes) no-feed
         ∙ (λ i. sym (good .line-is) i ++ between from (e i) bytes)
 
-    pub whole : (r : Begun) → r ≡ kept (line ++ between from taken bytes) → Took begun bytes out₀ out (record { begun = r; taken = taken; put = put })
-    whole r is-r =
-        let state = is-r ∙ ap kept (sym begun-then) in
-        let count = good .count ∙ ap length (sym all-put) in
-        let text = good .text ∙ ap (λ (l : List ℕ). l ++ drop put out₀) (sym all-put) in
-        (good .enough, (state, (count, (text, (put-within, sym (length-take-le put out put-within))))))
+    all-begun : (r : Begun) → r ≡ kept (line ++ between from taken bytes) → r ≡ kept (begunAfter begun (take taken bytes))
+    all-begun r is-r = is-r ∙ ap kept (sym begun-then)
+
+    all-counted : put ≡ length (answers begun (take taken bytes))
+    all-counted = good .count ∙ ap length (sym all-put)
+
+    all-there : out ≡ answers begun (take taken bytes) ++ drop put out₀
+    all-there = good .text ∙ ap (λ (l : List ℕ). l ++ drop put out₀) (sym all-put)
+
+-- ---- what a call promises
+-- of the bytes that it took, where put bytes are put
+abbrev Puts : List ℕ → List ℕ → List ℕ → List ℕ → ℕ → Type 0
+Puts begun taken out₀ out put =
+    (put ≡ length (answers begun taken))
+    × ((out ≡ answers begun taken ++ drop put out₀)
+    × ((put ≤ length out) × (put ≡ length (take put out))))
+
+abbrev Took : Reading → List ℕ → List ℕ → List ℕ → Fed → Type 0
+Took reading bytes out₀ out fed =
+    (fed .taken ≡ takenOf (take (reading .left) bytes) (length out₀))
+    × ((fed .reading ≡ after reading (take (fed .taken) bytes))
+    × Puts (held (reading .begun)) (take (fed .taken) bytes) out₀ out (fed .put))
+
+pub whole : (reading : Reading) {bytes out₀ out line : List ℕ} {taken from put end : ℕ} (good : Good bytes (held (reading .begun)) out₀ taken out line from put end) → taken ≤ end
+    → taken ≡ takenOf (take (reading .left) bytes) (length out₀) → (r : Begun) → r ≡ kept (line ++ between from taken bytes)
+    → Took reading bytes out₀ out (record { reading = record { begun = r; left = reading .left - taken }; taken = taken; put = put })
+unfolding after takenOf
+whole reading {bytes} {out₀} {out} {taken = taken} {put = put} good last is-taken r is-r =
+    let n : taken ≡ length (take taken bytes) = sym (length-take-le taken bytes (omega (arith, good .enough))) in
+    let state : record { begun = r; left = reading .left - taken } ≡ after reading (take taken bytes) = λ i. record { begun = all-begun good last r is-r i; left = reading .left - n i } in
+    (is-taken, (state, (all-counted good last, (all-there good last, (put-within good, sym (length-take-le put out (put-within good)))))))
 
 -- ---- the end of an input
-nothing-closed : (bytes : List ℕ) (count : ℕ) → count ≡ 0 → [] ≡ closing (take count bytes)
+-- a line feed that is taken where a line is begun
+closes : (bytes : List ℕ) (count : ℕ) → length bytes ≡ 27 → take (min count 1) (lineFeed ∷ []) ≡ closing (take count bytes)
 unfolding closing
-nothing-closed bytes count h = ap (λ (n : ℕ). closing (take n bytes)) (sym h)
+closes [] count long = absurd (omega arith)
+closes (x ∷ bytes) zero long = refl
+closes (x ∷ bytes) (suc count) long = let e : min (suc count) 1 ≡ 1 = omega arith in ap (λ (n : ℕ). take n (lineFeed ∷ [])) e
 
-line-closed : (bytes : List ℕ) (count : ℕ) → length bytes ≡ 27 → (count ≡ 0 → ⊥) → lineFeed ∷ [] ≡ closing (take count bytes)
-unfolding closing
-line-closed [] count long h = absurd (omega arith)
-line-closed (x ∷ bytes) zero long h = absurd (h refl)
-line-closed (x ∷ bytes) (suc count) long h = refl
+abbrev Closed : Reading → List ℕ → List ℕ → Fed → Type 0
+Closed reading out₀ out fed =
+    (fed .taken ≡ takenOf (closing (held (reading .begun))) (length out₀))
+    × ((fed .reading ≡ atEnd (after reading (take (fed .taken) (closing (held (reading .begun))))))
+    × Puts (held (reading .begun)) (take (fed .taken) (closing (held (reading .begun)))) out₀ out (fed .put))
 
-module _ (begun : Begun) (out₀ out : List ℕ) (fed : Fed) where
-  pub closed-none : begun .count ≡ 0 → Took (held begun) [] out₀ out fed → Took (held begun) (closing (held begun)) out₀ out fed
-  closed-none h t = subst (λ (l : List ℕ). Took (held begun) l out₀ out fed) (nothing-closed (begun .bytes) (begun .count) h) t
-
-  pub closed-line : length (begun .bytes) ≡ 27 → (begun .count ≡ 0 → ⊥) → Took (held begun) (lineFeed ∷ []) out₀ out fed → Took (held begun) (closing (held begun)) out₀ out fed
-  closed-line long h t = subst (λ (l : List ℕ). Took (held begun) l out₀ out fed) (line-closed (begun .bytes) (begun .count) long h) t
+pub closed : (reading : Reading) (out₀ out : List ℕ) (fed : Fed) {left : ℕ} → length (reading .begun .bytes) ≡ 27 → left ≡ min (reading .begun .count) 1
+    → Took (record { begun = reading .begun; left = left }) (lineFeed ∷ []) out₀ out fed
+    → Closed reading out₀ out (record { reading = record { begun = fed .reading .begun; left = 0 }; taken = fed .taken; put = fed .put })
+unfolding after
+closed reading out₀ out fed {left} long is-left t =
+    let begun : List ℕ = held (reading .begun) in
+    let may : take left (lineFeed ∷ []) ≡ closing begun = ap (λ (n : ℕ). take n (lineFeed ∷ [])) is-left ∙ closes (reading .begun .bytes) (reading .begun .count) long in
+    let same : take (fed .taken) (lineFeed ∷ []) ≡ take (fed .taken) (closing begun) =
+    sym (take-take (fed .taken) left (lineFeed ∷ []) (no-more left (length out₀) (lineFeed ∷ []) (t .0) .0)) ∙ ap (take (fed .taken)) may in
+    let line = ap (λ (r : Reading). r .begun) (t .1 .0) ∙ ap (λ (l : List ℕ). kept (begunAfter begun l)) same in
+    (t .0 ∙ ap (λ (l : List ℕ). takenOf l (length out₀)) may, (λ i. record { begun = line i; left = 0 }, subst (λ (l : List ℕ). Puts begun l out₀ out (fed .put)) same (t .1 .1)))

@@ -60,7 +60,7 @@ filled n l =
     ∙ ap (λ (r : List ℕ). t ++ r) (zeros 0 n (length t) (n - length t) e)
 
 -- ---- more bytes have come
-take-min : (n : ℕ) (l : List ℕ) → take (min n (length l)) l ≡ take n l
+pub take-min : (n : ℕ) (l : List ℕ) → take (min n (length l)) l ≡ take n l
 take-min n l = ap (λ (k : ℕ). take k l) (sym (length-take n l)) ∙ ap (take (length (take n l))) (sym (take-append-drop n l)) ∙ take-append-seam (take n l) (drop n l)
 
 -- as many bytes as the array has

@@ -3,8 +3,10 @@
 use mathlib.Core.Path.{_≡_, refl, sym, ap, _∙_}
 use mathlib.Core.Bool.{true, false, not}
 use mathlib.Core.List.{List, [], _∷_, _++_, flatMap, append-nil, append-assoc}
-use Prim.Native.Nat.{ℕ}
+use Prim.Native.Nat.{ℕ, zero, suc, _-_}
+use native.Mathlib.Omega.{arith}
 use lib.Dec.{eqb}
+use lib.ListN.{length, take}
 use lib.Seq.{append-snoc}
 use borrow.Author.Tests.{eqb-true, not-true}
 use Rattle.whole.specs.Every.{every}
@@ -23,6 +25,14 @@ pub begun-pieces : (begun xs ys : List ℕ) → begunAfter begun (xs ++ ys) ≡ 
 unfolding begunAfter
 begun-pieces begun [] ys = refl
 begun-pieces begun (x ∷ xs) ys = by-test (eqb x lineFeed) (λ t. simp t (begun-pieces [] xs ys)) (λ t. simp t (begun-pieces (begun ++ x ∷ []) xs ys))
+
+-- the first n bytes of both
+pub first-pieces : (n : ℕ) (xs ys : List ℕ) → take n xs ++ take (n - length (take n xs)) ys ≡ take n (xs ++ ys)
+first-pieces zero xs ys = refl
+first-pieces (suc n) [] ys = let e : suc n - 0 ≡ suc n = omega arith in ap (λ (k : ℕ). take k ys) e
+first-pieces (suc n) (x ∷ xs) ys =
+    let e : suc n - suc (length (take n xs)) ≡ n - length (take n xs) = omega arith in
+    ap (λ (k : ℕ). x ∷ (take n xs ++ take k ys)) e ∙ ap (λ (l : List ℕ). x ∷ l) (first-pieces n xs ys)
 
 -- ---- bytes with no line feed among them
 no-feed : (x : ℕ) (l : List ℕ) → unbroken (x ∷ l) ≡ true → (eqb x lineFeed ≡ false) × (unbroken l ≡ true)

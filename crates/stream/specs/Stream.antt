@@ -10,6 +10,7 @@ use Rattle.position.specs.Text.{byteOf}
 use Rattle.tables.specs.Page.{Family}
 use Rattle.line.specs.Line.{space, lineFeed, answerLine, pointOf}
 use Rattle.stream.specs.declared.Begun.{Begun}
+use Rattle.stream.specs.declared.Reading.{Reading}
 
 -- ---- a line out
 -- '`refused` and the number'
@@ -48,8 +49,11 @@ abbrev pub lines : List ℕ → List (List ℕ)
 lines input = ended [] input ++ last (begunAfter [] input)
 
 -- 'It prints one line each'; 'It reads at most 100,000,000 bytes and then goes on as if the input ended there'
+abbrev pub limit : ℕ
+limit = 100000000
+
 abbrev pub output : List ℕ → List ℕ
-output input = flatMap printed (lines (take 100000000 input))
+output input = flatMap printed (lines (take limit input))
 
 -- ---- an input in pieces
 -- what is held of a line between two pieces, and how it is kept: 27 bytes, which are enough to refuse a longer line
@@ -59,7 +63,19 @@ held begun = take (begun .count) (begun .bytes)
 unfoldable pub kept : List ℕ → Begun
 kept line = record { bytes = take 27 (line ++ replicate 27 0); count = min 27 (length line) }
 
--- how many bytes are taken: for the first there must be room for 36 bytes, and for each one more for 10
+-- an input of which nothing is taken yet
+abbrev pub started : Reading
+started = record { begun = kept []; left = limit }
+
+-- one of which some more bytes are taken
+unfoldable pub after : Reading → List ℕ → Reading
+after reading bytes = record { begun = kept (begunAfter (held (reading .begun)) bytes); left = reading .left - length bytes }
+
+-- one of which no more may be taken
+abbrev pub atEnd : Reading → Reading
+atEnd reading = record { begun = reading .begun; left = 0 }
+
+-- how many bytes are taken of those that may be: for the first there must be room for 36 bytes, and for each one more for 10
 unfoldable pub takenOf : List ℕ → ℕ → ℕ
 takenOf bytes room = min (length bytes) ((room - 26) / 10)
 
@@ -72,7 +88,7 @@ unfoldable pub closing : List ℕ → List ℕ
 closing [] = []
 closing (byte ∷ rest) = lineFeed ∷ []
 
--- what is printed in all for pieces that are fed one after the other, each of which is taken whole, and for the end
-abbrev pub fed : Begun → List (List ℕ) → List ℕ
-fed begun [] = answers (held begun) (closing (held begun))
-fed begun (piece ∷ pieces) = answers (held begun) piece ++ fed (kept (begunAfter (held begun) piece)) pieces
+-- what is printed in all for pieces that are fed one after the other, each of which is taken as far as it may be, and for the end
+abbrev pub fed : Reading → List (List ℕ) → List ℕ
+fed reading [] = answers (held (reading .begun)) (closing (held (reading .begun)))
+fed reading (piece ∷ pieces) = answers (held (reading .begun)) (take (reading .left) piece) ++ fed (after reading (take (reading .left) piece)) pieces

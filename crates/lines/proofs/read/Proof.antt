@@ -1,16 +1,21 @@
 -- `lines::read` meets its contract. Assumes nothing.
-use mathlib.Core.Path.{sym}
-use mathlib.Core.Bool.{false≢true}
+use mathlib.Core.Path.{_≡_, sym, subst}
 use mathlib.Core.List.{List, _++_}
 use Prim.Native.Nat.{ℕ, _≤_}
 use native.Mathlib.Omega.{arith}
-use lib.ListN.{length, drop}
-use lib.Seq.{length-take-le}
-use borrow.Author.Tests.{not-false}
-use Rattle.lines.proofs.Pieces.{count-within}
+use lib.ListN.{length, take, drop, length-append}
+use lib.Seq.{length-take-le, take-take}
 use borrow.Author.Needs.{needs}
+use mir.Syntax.{w64}
+use mir.Val.{SFits, toZ, ofZ}
+use Rattle.whole.proofs.Words.{of}
+use Rattle.libc.specs.Io.{Moved}
+use Rattle.lines.specs.Answered.{Answered}
 use Rattle.lines.proofs.read.Statement.{statement}
 use Rattle.lines.proofs.read.Tie as tie
+
+left-requires : tie.Need-left-requires
+left-requires c κs = search needs
 
 least-requires : tie.Need-least-requires
 least-requires c κs = search needs
@@ -24,73 +29,73 @@ slice-aggregate-read c = sym (length-take-le _ _ (omega (arith, c .before .least
 read-requires : tie.Need-read-requires
 read-requires c κs = search needs
 
-slice-aggregate-write-all : tie.Need-slice-aggregate-write-all
-slice-aggregate-write-all c = search needs
+-- the input after the read, of which the first bytes were lent
+module _ (c : tie.After-read) where
+  abbrev s : tie.Start
+  s = c .before .before .before .before .before .before
 
-write-all-requires : tie.Need-write-all-requires
-write-all-requires c κs = search needs
+  abbrev most : ℕ
+  most = c .before .before .least .result
+
+  abbrev filled : List ℕ
+  filled = c .read .last .1 .0 ++ drop most (s .args .input .now)
+
+  within : most ≤ length (s .args .input .now)
+  within = omega (arith, c .before .before .least .ensures)
+
+  room : most ≤ length filled
+  room = omega (arith, within, c .read .kept .1 .0, length-take-le most (s .args .input .now) within, length-append (c .read .last .1 .0) (drop most (s .args .input .now)))
+
+  long : length (take most filled) ≡ most
+  long = length-take-le most filled room
+
+  moved : Moved (length (take most filled)) (toZ w64 (ofZ w64 (c .read .result)))
+  moved =
+      let one : Moved most (c .read .result) = subst (λ (n : ℕ). Moved n (c .read .result)) (length-take-le most (s .args .input .now) within) (c .read .ensures) in
+      let fits : SFits w64 (c .read .result) = record { sfits = c .read .ok } in
+      subst (Moved (length (take most filled))) (sym (of fits .reads)) (subst (λ (n : ℕ). Moved n (c .read .result)) (sym long) one)
+
+slice-reshare-prefix-turned : tie.Need-slice-reshare-prefix-turned
+slice-reshare-prefix-turned c = search needs
+
+slice-aggregate-turned : tie.Need-slice-aggregate-turned
+slice-aggregate-turned c = sym (long (c .before .before .before))
+
+turned-requires : tie.Need-turned-requires
+turned-requires c κs =
+    let d = c .before .before .before .before in
+    let p = s d .pre in
+    let left = d .before .before .before .left .ensures in
+    let least = d .before .before .least .ensures in
+    ((omega (arith, long d, p, left, least), p .0 .1), ((omega (arith, long d, left, least), p .1 .1), moved d))
 
 same-length : tie.Need-same-length
 same-length c = search needs
 
-returns : tie.Need-returns
-returns c = (omega arith, λ e. absurd (false≢true (sym e)))
-
-slice-reshare-prefix-count : tie.Need-slice-reshare-prefix-count
-slice-reshare-prefix-count c = search needs
-
-slice-aggregate-count : tie.Need-slice-aggregate-count
-slice-aggregate-count c = sym (length-take-le _ _ (omega (arith, c .before .before .before .before .before .before .least .ensures, c .before .before .before .before .read .kept)))
-
-count-requires : tie.Need-count-requires
-count-requires c κs = search needs
-
--- the input after the read, and the count of what was read
-module _ (c : tie.After-count) where
-  abbrev filled : List ℕ
-  filled = c .before .before .before .before .before .read .last .1 .0 ++ drop (c .before .before .before .before .before .before .before .least .result) (c .before .before .before .before .before .before .before .before .before .before .args .input .now)
-
-  within : (c .count .result ≤ length filled) × (c .count .result ≤ c .before .before .before .before .before .before .before .least .result)
-  within = count-within (c .before .before .before .before .before .before .before .least .result) (c .count .result) filled (c .count .ensures .0 .0)
-
-slice-reshare-prefix-answer : tie.Need-slice-reshare-prefix-answer
-slice-reshare-prefix-answer c = within c .0
-
-slice-aggregate-answer : tie.Need-slice-aggregate-answer
-slice-aggregate-answer c = sym (length-take-le (c .before .count .result) (filled (c .before)) (within (c .before) .0))
-
-answer-requires : tie.Need-answer-requires
-answer-requires c κs = search needs
-
 same-length-2 : tie.Need-same-length-2
 same-length-2 c = search needs
 
-same-length-3 : tie.Need-same-length-3
-same-length-3 c = search needs
-
-returns-2 : tie.Need-returns-2
-returns-2 c =
+returns : tie.Need-returns
+returns c = λ e.
     let d = c .before .before .before .before .before .before .before in
-    (omega (arith, within d .1, d .before .before .before .before .before .before .before .least .ensures), λ e. c .before .before .before .before .answer .ensures (not-false _ e))
+    let t = c .before .before .turned in
+    let a = t .ensures .1 e in
+    let count : t .result .count ≤ length (take (most d) (filled d)) = subst (Moved (length (take (most d) (filled d)))) (a .0) (moved d) in
+    let few : t .result .count ≤ most d = omega (arith, count, long d) in
+    (omega (arith, few, room d), subst (λ (l : List ℕ). Answered (s d .args .reading) l (t .result .reading) (t .result .handed)) (take-take (t .result .count) (most d) (filled d) few) (a .1))
 
 pub read-spec : {M : Type 1} → statement M
 read-spec =
     tie.close
     (tie.spec
+    left-requires
     least-requires
     slice-relend-prefix-read
     slice-aggregate-read
     read-requires
-    slice-aggregate-write-all
-    write-all-requires
+    slice-reshare-prefix-turned
+    slice-aggregate-turned
+    turned-requires
     same-length
-    returns
-    slice-reshare-prefix-count
-    slice-aggregate-count
-    count-requires
-    slice-reshare-prefix-answer
-    slice-aggregate-answer
-    answer-requires
     same-length-2
-    same-length-3
-    returns-2)
+    returns)

@@ -1,29 +1,46 @@
 -- `stream::feed` meets its contract. Assumes nothing.
+use mathlib.Core.Path.{_≡_}
 use Prim.Native.Nat.{_-_}
 use native.Mathlib.Omega.{arith}
+use lib.ListN.{length, take}
 use borrow.Author.Needs.{needs}
-use Rattle.stream.specs.Stream.{held}
-use Rattle.stream.proofs.Feeding.{Good, start, put-within, long, lent-room, sum-fits, turn, whole}
+use Rattle.stream.specs.Stream.{held, takenOf}
+use Rattle.stream.proofs.Feeding.{taken-is, no-more, Good, start, put-within, long, lent-room, sum-fits, turn, whole}
 use Rattle.stream.proofs.feed.Statement.{statement}
 use Rattle.stream.proofs.feed.Tie as tie
 
 abbrev Inv-loop : tie.InvT-loop
-Inv-loop bytes out₀ taken line₀ from₀ put₀ end₀ out line from put end = Good bytes (held line₀) out₀ taken out (held line) from put end
+Inv-loop bytes out₀ taken left line₀ from₀ put₀ end₀ out line from put end = Good bytes (held line₀) out₀ taken out (held line) from put end
 
 abbrev μ-loop : tie.MeasureT-loop
-μ-loop bytes out₀ taken line₀ from₀ put₀ end₀ out line from put end = taken - from
+μ-loop bytes out₀ taken left line₀ from₀ put₀ end₀ out line from put end = taken - from
+
+least-requires : tie.Need-least-requires Inv-loop μ-loop
+least-requires c κs = search needs
 
 bytes-for-requires : tie.Need-bytes-for-requires Inv-loop μ-loop
 bytes-for-requires c κs = search needs
 
-least-requires : tie.Need-least-requires Inv-loop μ-loop
-least-requires c κs = search needs
+least-requires-2 : tie.Need-least-requires-2 Inv-loop μ-loop
+least-requires-2 c κs = search needs
+
+module _ (c : tie.After-least2 Inv-loop μ-loop) where
+  abbrev s : tie.Start Inv-loop μ-loop
+  s = c .before .before .before .before .before
+
+  is-taken : c .least2 .result ≡ takenOf (take (s .args .reading .left) (s .args .bytes .now)) (length (s .args .out .now))
+  is-taken = taken-is _ _ _ (c .before .before .least .ensures) (c .before .bytes-for .ensures) (c .least2 .ensures)
+
+sub-left : tie.Need-sub-left Inv-loop μ-loop
+sub-left c = no-more _ _ _ (is-taken (c .before)) .0
 
 find-requires : tie.Need-find-requires Inv-loop μ-loop
 find-requires c κs = search needs
 
 loop-holds : tie.Need-loop-holds Inv-loop μ-loop
-loop-holds c = start _ _ _ (c .before .least .ensures) (c .before .before .bytes-for .ensures) (c .find .ensures .0) (c .find .ensures .1)
+loop-holds c =
+    let d = c .before .before .before in
+    start _ _ _ (no-more (s d .args .reading .left) _ _ (is-taken d) .1) (c .find .ensures .0) (c .find .ensures .1)
 
 sub-ended : tie.Need-sub-ended Inv-loop μ-loop
 sub-ended c = search needs
@@ -82,7 +99,9 @@ same-length : tie.Need-same-length Inv-loop μ-loop
 same-length c = long (c .before .before .before .loop .inv)
 
 returns : tie.Need-returns Inv-loop μ-loop
-returns c = whole (c .before .before .before .loop .inv) (c .before .before .loop-test .left) _ (c .extended .ensures)
+returns c =
+    let d = c .before .before .before .before .before .before .before in
+    whole (s d .args .reading) (c .before .before .before .loop .inv) (c .before .before .loop-test .left) (is-taken d) _ (c .extended .ensures)
 
 pub feed-spec : {M : Type 1} → statement M
 feed-spec =
@@ -90,8 +109,10 @@ feed-spec =
     (tie.spec
     Inv-loop
     μ-loop
-    bytes-for-requires
     least-requires
+    bytes-for-requires
+    least-requires-2
+    sub-left
     find-requires
     loop-holds
     sub-ended
