@@ -1,15 +1,16 @@
 #!/usr/bin/env python3
-"""What the program `calls` must print, every exported call as C would see it, worked out from the papers by tests/pages.py,
-tests/sheets.py and tests/lines.py.
+"""What the program `calls` is asked, every exported call as C would see it, and what it must print, worked out from the papers
+by tests/pages.py, tests/sheets.py and tests/lines.py.
 
-    python3 tests/calls.py           prints it
-    python3 tests/calls.py --check   holds it to crates/calls/stdout, to which the gate holds the program
+    python3 tests/calls.py --write   makes crates/calls/stdin and crates/calls/stdout
+    python3 tests/calls.py --check   holds these files, to which the gate holds the program, to what is worked out
 """
 import lines
 import pages
 import program
 import sheets
 from pages import LATITUDE, LONGITUDE, ms
+from program import count, number, spaced
 
 POINTS = [
     (1, ms(35), ms(33)), (2, ms(10), ms(8)), (6, ms(23), ms(57)), (5, ms(7), ms(80)),
@@ -32,7 +33,8 @@ def fields(answer, count):
 def point(place):
     shift, geoid = (pages.asked(family, *place) for family in ((1, 2, 3, 4), (5, 6)))
     floats = pages.floats(pages.asked(None, *place)).split()[-4:]
-    return f'point {" ".join(map(str, place))}: {fields(shift, 3)}, {fields(geoid, 1)}, {" ".join(floats)}'
+    question = b'p' + b''.join(map(number, place))
+    return f'point{spaced(place)}:', question, spaced([fields(shift, 3), fields(geoid, 1), *floats])
 
 
 def read(form, text):
@@ -40,39 +42,54 @@ def read(form, text):
     return f'0 {found[1:-1]}' if found[0] == '(' else f'{found} 0'
 
 
-def written(form, number, room):
-    """The answer, and the whole of a lent buffer."""
+def text(given):
+    question = b't' + program.text(given.encode())
+    return f'text {given}:', question, spaced(read(form, given) for form in (LATITUDE, LONGITUDE))
+
+
+def written(form, n, room):
+    """The answer, and 14 bytes of which the first are lent."""
     least, largest = form[2:]
-    out = '#' * room
-    if not least <= number <= largest:
+    out = '#' * 14
+    if not least <= n <= largest:
         return f'3 0 {out}'
-    text = pages.spelled(form, number)
-    return f'0 {len(text)} {text}{out[len(text):]}' if len(text) <= room else f'7 0 {out}'
+    spelled = pages.spelled(form, n)
+    return f'0 {len(spelled)} {spelled}{out[len(spelled):]}' if len(spelled) <= room else f'7 0 {out}'
+
+
+def number_into(n, first, second):
+    question = b'a' + number(n) + count(first) + b'o' + number(n) + count(second)
+    answers = [written(LATITUDE, n, first), written(LONGITUDE, n, second)]
+    return f'number {n} into {first}, {second}:', question, spaced(answers)
+
+
+def answered(given, room):
+    answer, out = lines.answered(given) + '\n', '#' * 24
+    if answer.startswith('refused'):
+        return f'{fields(answer, 1)} {out}'
+    if len(answer) > room:
+        return f'7 0 {out}'
+    return f'0 {len(answer)} {answer}{out[len(answer):]}'
 
 
 def line(given, room):
-    answer, out = lines.answered(given) + '\n', '#' * room
-    if answer.startswith('refused'):
-        return f'line {given.decode()} {fields(answer, 1)} {out}'
-    if len(answer) > room:
-        return f'line {given.decode()} 7 0 {out}'
-    return f'line {given.decode()} 0 {len(answer)} {answer}{out[len(answer):]}'
+    question = b'l' + program.text(given) + count(room)
+    return f'line {given.decode()} into {room}:', question, f' {answered(given, room)}'
 
 
 def sheet(unit, room):
     given = sheets.sheet(7, [6], [(6, ms(23), ms(57))])
-    answer, out = sheets.lent(unit, given, b'#' * room, room)
+    answer, out = sheets.lent(unit, given, b'#' * 20, room)
     verb, n = answer.split()
-    return f'sheet for {unit} ' + (f'0 {n}' if verb == 'wrote' else f'{n} 0') + f' {out.hex()}'
+    question = b's' + number(unit) + program.text(given) + count(room)
+    return f'sheet for {unit} into {room}:', question, (f' 0 {n}' if verb == 'wrote' else f' {n} 0') + f' {out.hex()}'
 
 
-def text():
-    found = [point(place) for place in POINTS]
-    found += [f'text {given} {read(LATITUDE, given)} {read(LONGITUDE, given)}' for given in TEXTS]
-    found += [f'number {n} {written(LATITUDE, n, first)} {written(LONGITUDE, n, second)}' for n, first, second in NUMBERS]
-    found += [line(*given) for given in LINES] + [sheet(*given) for given in SHEETS]
-    return '\n'.join(found) + '\n'
+def cases():
+    found = [point(place) for place in POINTS] + [text(given) for given in TEXTS] + [number_into(*given) for given in NUMBERS]
+    return found + [line(*given) for given in LINES] + [sheet(*given) for given in SHEETS]
 
 
 if __name__ == '__main__':
-    program.must_print('calls', text())
+    found = cases()
+    program.ended(program.held(program.of_cases('calls', found)), f'calls: {len(found)} calls agree')

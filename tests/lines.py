@@ -1,17 +1,17 @@
 #!/usr/bin/env python3
-"""What the programs `lines` and `points` must print, and what `lines` is run on, worked out from document 01 with Python's own
+"""What the programs `lines` and `points` are asked, and what they must print, worked out from document 01 with Python's own
 reading of bytes. The reading of a text and a point's answer are those of tests/pages.py.
 
-    python3 tests/lines.py --write   makes crates/lines/stdin, crates/lines/stdout and crates/points/stdout
+    python3 tests/lines.py --write   makes their files stdin and stdout
     python3 tests/lines.py --check   holds these files, to which the gate holds the programs, to what is worked out; and that to
                                      document 01's example, to the answers in NUMBERS and to the refusals in FAULTS
 """
 import re
-import sys
 from functools import cache
 from io import BytesIO
 from itertools import combinations, product
 
+import program
 from pages import AREAS, LATITUDE, LONGITUDE, OTHERS, PRINTED, asked, centre, ms, read, spelled
 
 # Document 01's example.
@@ -93,7 +93,7 @@ def lent(line, room):
             answer, out = f'wrote {len(text)}', text + out[len(text):]
         else:
             answer = 'refused 7'
-    return line + f' into {room}: {answer} {out}\n'.encode()
+    return f'{line.decode()} into {room}:', b'l' + program.text(line) + program.count(room), f' {answer} {out}'
 
 
 def at(code, latitude, longitude):
@@ -143,16 +143,16 @@ def until(reads, more, text):
 
 
 def points():
-    """What `points` must print."""
+    """What `points` is asked, and must print."""
     good = INPUT.split(b'\n')[:2] + [at(*NUMBERS[answer]) for answer in ('0', '-222907 -1158440 -1')]
     two = {(first[0], second[0]): wrong(first, second) for first, second in pairs()}     # for two refusals, the last such line
     refused = [wrong(fault) for fault in FAULTS] + list(two.values())
     calls = [*product(good, range(41)), *product(refused, (40, 0))]
-    return b''.join(lent(line, room) for line, room in calls)
+    return [lent(line, room) for line, room in calls]
 
 
 def files():
-    return {'crates/lines/stdin': given(), 'crates/lines/stdout': printed(given()), 'crates/points/stdout': points()}
+    return {'crates/lines/stdin': given(), 'crates/lines/stdout': printed(given()), **program.of_cases('points', points())}
 
 
 def check():
@@ -162,18 +162,8 @@ def check():
             problems.append(f'{wrong(*faults)} is {answered(wrong(*faults))}')
     if printed(INPUT) != OUTPUT:
         problems.append("document 01's example gives something else than document 01 says")
-    for name, content in files().items():
-        with open(name, 'rb') as f:
-            if f.read() != content:
-                problems.append(f'{name} is not what this script works out')
     return problems
 
 
 if __name__ == '__main__':
-    if '--write' in sys.argv:
-        for name, content in files().items():
-            with open(name, 'wb') as f:
-                f.write(content)
-    problems = check()
-    print('\n'.join(problems) or f'lines: {printed(given()).count(10)} lines and {points().count(b" into ")} lent buffers agree')
-    sys.exit(1 if problems else 0)
+    program.ended(program.held(files()) + check(), f'lines: {printed(given()).count(10)} lines and {len(points())} lent buffers agree')

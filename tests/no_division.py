@@ -13,7 +13,7 @@ import program
 
 PAGES = 'target/obj/pages.o'
 # Functions into which the compiler puts whole::round_div, rounded and scaled, all with literal divisors, and equation::equation.
-HOT = ['pages::quotients', 'equation::powers', 'datum::shift_at', 'datum::geoid_at']
+HOT = ['equation::powers', 'datum::shift_at', 'datum::geoid_at']
 
 
 def functions(path):

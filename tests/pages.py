@@ -1,19 +1,19 @@
 #!/usr/bin/env python3
-"""What the programs `pages` and `texts` must print, worked out from the papers with Python's fractions, regular expressions and
-floats.
+"""What the programs `figures`, `pages` and `texts` are asked, and what they must print, worked out from the papers with Python's
+fractions, regular expressions and floats.
 
-    python3 tests/pages.py           prints what `pages` must
-    python3 tests/pages.py texts     prints what `texts` must
-    python3 tests/pages.py --check   holds both to their files stdout, to which the gate holds the programs,
-                                     and the points that document 01 gives in figures to the same arithmetic
+    python3 tests/pages.py --write   makes their files stdin and stdout
+    python3 tests/pages.py --check   holds these files, to which the gate holds the programs, to what is worked out; and the
+                                     points that document 01 gives in figures to the same arithmetic
 """
 import re
 import struct
-import sys
 from fractions import Fraction
 from math import floor
 
 import document_000
+import program
+from program import count, number, spaced
 
 SCALE = 100_000_000            # u, v and their powers are in hundred-millionths
 
@@ -39,7 +39,8 @@ def rounded(x):
 
 
 def quotients(n):
-    return f'{n}: ' + ' '.join(str(rounded(Fraction(n, d))) for d in DIVISORS + [SCALE])
+    question = b''.join(b'q' + number(n) + number(d) for d in DIVISORS) + b'r' + number(n)
+    return f'{n}:', question, spaced(rounded(Fraction(n, d)) for d in DIVISORS + [SCALE])
 
 
 # The kinds: least and largest of each, and numbers around every end.
@@ -74,6 +75,7 @@ WRITTEN = [
     1_295_999_999, 1_296_000_000, 2 ** 32, 2 ** 63 - 1,
 ]
 ROOMS = [0, 10, 11, 12, 14]
+PUT = [b'', b'12345678901', b'12345678901234']     # texts that are put into buffers of these rooms
 
 
 # The datums: document 01's areas, in ms, south, north, west and east.
@@ -203,26 +205,28 @@ def asked(family, code, latitude, longitude):
 
 def point(*place):
     calls = [asked(family, *place) for family in (None, (1, 2, 3, 4), (5, 6))]
-    return ' '.join(map(str, place)) + ': ' + ' '.join(calls + [floats(calls[0])])
+    return ' '.join(map(str, place)) + ':', b'p' + b''.join(map(number, place)), spaced(calls + [floats(calls[0])])
 
 
 def points():
     places = [centre(code) for code in AREAS] + [p[:3] for p in PRINTED]
     places += [place for code in AREAS for place in around(code)] + OTHERS + REFUSED
-    return ['datum'] + [point(*place) for place in places]
+    return [('datum', b'', '')] + [point(*place) for place in places]
 
 
 def floating():
-    return ['floating'] + [f'{n}: ' + ' '.join(bits(n, units) for units in (ANGLE, ANGLE, HEIGHT)) for n in MADE]
+    cases = [(f'{n}:', b'f' + number(n), spaced(bits(n, units) for units in (ANGLE, ANGLE, HEIGHT))) for n in MADE]
+    return [('floating', b'', '')] + cases
 
 
 def made(n):
-    return f'{n}: ' + ' '.join(str(n) if least <= n <= largest else 'refused 3' for least, largest in KINDS)
+    return f'{n}:', b'k' + number(n), spaced(n if least <= n <= largest else 'refused 3' for least, largest in KINDS)
 
 
 def shifted(ms, shift):
     """ms as each of the two local kinds, by the shift."""
-    return f'{ms} by {shift}:' + ''.join(f' {100 * ms + shift}' if least <= ms <= largest else ' refused 3' for least, largest in KINDS[:2])
+    answers = [100 * ms + shift if least <= ms <= largest else 'refused 3' for least, largest in KINDS[:2]]
+    return f'{ms} by {shift}:', b'c' + number(ms) + number(shift), spaced(answers)
 
 
 def read(form, text):
@@ -248,11 +252,9 @@ def both(text):
 
 def at(text, place):
     """Every byte at one place of 12: the last 11 as a latitude, and all as a longitude."""
-    out = ''
-    for b in range(256):
-        changed = text[:place] + bytes([b]) + text[place + 1:]
-        out += read(LATITUDE, changed[1:]) + read(LONGITUDE, changed)
-    return f'byte {place}: {out}'
+    texts = [text[:place] + bytes([b]) + text[place + 1:] for b in range(256)]
+    answers = ''.join(read(LATITUDE, changed[1:]) + read(LONGITUDE, changed) for changed in texts)
+    return f'byte {place}: ', b''.join(b't' + changed for changed in texts), answers
 
 
 def spelled(form, ms):
@@ -264,33 +266,52 @@ def spelled(form, ms):
     return f'{d:0{places}d}{m:02d}{s:02d}.{f:03d}{letters[ms < 0]}'
 
 
-def write(form, ms, room):
-    """The answer, and 14 bytes of which the first are lent."""
-    places, _, least, largest = form
+def lent(text, room):
+    """A text put at the start of 14 bytes, of which so many are lent."""
     out = '#' * 14
-    if not least <= ms <= largest:
-        return '3' + out
-    if room < places + 9:
-        return '7' + out
-    text = spelled(form, ms)
-    return f'({len(text)})' + text + out[len(text):]
+    return f'wrote {len(text)} {text}{out[len(text):]}' if len(text) <= room else f'refused 7 {out}'
+
+
+def write(form, ms, room):
+    least, largest = form[2:]
+    return lent(spelled(form, ms), room) if least <= ms <= largest else 'refused 3 ' + '#' * 14
+
+
+def written(n, room):
+    """A number as each of the two."""
+    question = b''.join(letter + number(n) + count(room) for letter in (b'a', b'o'))
+    return f'{n} into {room}:', question, spaced(write(form, n, room) for form in (LATITUDE, LONGITUDE))
+
+
+def as_each(texts):
+    return b''.join(b'r' + program.text(text) for text in texts), ''.join(map(both, texts))
 
 
 def texts():
-    lines = ['position'] + [f'{t}: ' + both(t.encode()) for t in TEXTS]
-    lines += [at(t.encode(), place) for t in CHANGED for place in range(12)]
-    lines += ['lengths: ' + ''.join(both(t.encode()[:n]) for n in range(21)) for t in CUT]
-    lines += [f'{n} into {room}: {write(LATITUDE, n, room)} {write(LONGITUDE, n, room)}' for n in WRITTEN for room in ROOMS]
-    return '\n'.join(lines) + '\n'
+    cases = [('position', b'', '')] + [(f'{t}: ', *as_each([t.encode()])) for t in TEXTS]
+    cases += [at(t.encode(), place) for t in CHANGED for place in range(12)]
+    cases += [('lengths: ', *as_each([t.encode()[:n] for n in range(21)])) for t in CUT]
+    return cases + [written(n, room) for n in WRITTEN for room in ROOMS]
+
+
+def put(text, room):
+    return f'{len(text)} bytes into {room}:', b't' + program.text(text) + count(room), ' ' + lent(text.decode(), room)
 
 
 def kinds():
-    return ['kinds' + ''.join(f' refused {n}' for n in range(1, 10))] + [made(n) for n in RAW] + [shifted(*p) for p in SHIFTED]
+    cases = [('kinds', b'n', spaced(f'refused {n}' for n in range(1, 10)))] + [made(n) for n in RAW]
+    return cases + [shifted(*p) for p in SHIFTED] + [put(text, room) for text in PUT for room in ROOMS]
 
 
-def text():
-    whole = ['whole'] + [quotients(n) for n in NUMBERS] + [' '.join(map(str, tens(u)[1:])) for u in POWERS]
-    return '\n'.join(whole + kinds() + floating() + points()) + '\n'
+def figures():
+    powers = [(f'{u}', b'p' + number(u), spaced(tens(u)[2:])) for u in POWERS]
+    return [('whole', b'', '')] + [quotients(n) for n in NUMBERS] + powers + kinds()
+
+
+def files():
+    pages = floating() + points()
+    return {name: content for p, cases in (('figures', figures()), ('pages', pages), ('texts', texts()))
+            for name, content in program.of_cases(p, cases).items()}
 
 
 def beside(found, printed):
@@ -325,17 +346,11 @@ def check():
             wrong.append(f'the test point of code {code} gives {found}, and was worked as {answer}')
         wrong += [f'the test point of code {code}: {x} is not near {y}' for x, y, near in beside(found, printed) if not near]
     wrong += [f'the slip {slip} is not seen at {p}' for slip, places in SLIPS.items() for p in places if worked(*p, slip) == worked(*p)]
-    for name, must in (('pages', text()), ('texts', texts())):
-        with open(f'crates/{name}/stdout', encoding='ascii') as f:
-            if f.read() != must:
-                wrong.append(f'crates/{name}/stdout is not what this script works out')
     return wrong, len(points) + len(positions) + len(CENTRES) + len(PRINTED)
 
 
 if __name__ == '__main__':
-    if '--check' in sys.argv:
-        problems, held = check()
-        lines = (text() + texts()).count('\n')
-        print('\n'.join(problems) or f'pages, texts: {lines} lines and {held} points of the papers agree')
-        sys.exit(1 if problems else 0)
-    sys.stdout.write(texts() if 'texts' in sys.argv else text())
+    problems, points_held = check()
+    found = files()
+    lines = sum(content.count(b'\n') for name, content in found.items() if name.endswith('stdout'))
+    program.ended(program.held(found) + problems, f'figures, pages, texts: {lines} lines and {points_held} points of the papers agree')

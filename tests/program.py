@@ -1,5 +1,5 @@
 """How a program that was built is run, on either kind of machine, as tests/run runs it: programs are compiled for x86-64, and on
-another processor the toolchain's own emulator runs them."""
+another processor the toolchain's own emulator runs them. And how a test program is asked, and what it must print."""
 import os
 import platform
 import shutil
@@ -31,15 +31,56 @@ def proved(name):
     return emulator() + [os.path.join(library, 'ld-linux-x86-64.so.2'), '--library-path', library, path]
 
 
-def must_print(name, text):
-    """Shows what a program must print, or, with --check, holds its file stdout to that."""
-    if '--check' not in sys.argv:
-        sys.stdout.write(text)
-        return
-    with open(f'crates/{name}/stdout', encoding='ascii') as f:
-        if f.read() != text:
-            raise SystemExit(f'crates/{name}/stdout is not what this script works out')
-    print(f'{name}: {text.count(chr(10))} lines agree')
+# A question on standard input, as crates/ask reads it, is a letter, and then its parts.
+def number(n):
+    return n.to_bytes(8, 'big', signed=True)
+
+
+def count(n):
+    return n.to_bytes(2, 'big')
+
+
+def text(given):
+    return count(len(given)) + given
+
+
+def label(words):
+    """What a case is called, which the program prints as it stands."""
+    assert len(words) <= 64
+    return b'=' + text(words.encode())
+
+
+def spaced(answers):
+    return ''.join(f' {answer}' for answer in answers)
+
+
+def of_cases(name, cases):
+    """The program's files stdin and stdout. A case is a line: its label, the questions, and what must be printed after the label."""
+    given, printed = b'', ''
+    for words, questions, answers in cases:
+        given += label(words) + questions + label('\n')
+        printed += words + answers + '\n'
+    return {f'crates/{name}/stdin': given, f'crates/{name}/stdout': printed.encode()}
+
+
+def held(files):
+    """Makes the files, with --write. What is wrong with them."""
+    if '--write' in sys.argv:
+        for name, content in files.items():
+            with open(name, 'wb') as f:
+                f.write(content)
+    wrong = []
+    for name, content in files.items():
+        with open(name, 'rb') as f:
+            if f.read() != content:
+                wrong.append(f'{name} is not what this script works out')
+    return wrong
+
+
+def ended(wrong, words):
+    """Says what is wrong, or that all is well, and ends."""
+    print('\n'.join(wrong) or words)
+    sys.exit(1 if wrong else 0)
 
 
 def with_stack(size, command):

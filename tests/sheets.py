@@ -1,9 +1,9 @@
 #!/usr/bin/env python3
-"""What the program `sheets` must print, worked out from document 01 with Python's own reading of bytes. A point's answer is
-that of tests/pages.py.
+"""What the program `sheets` is asked, and what it must print, worked out from document 01 with Python's own reading of bytes. A
+point's answer is that of tests/pages.py.
 
-    python3 tests/sheets.py           prints it
-    python3 tests/sheets.py --check   holds it to crates/sheets/stdout, to which the gate holds the program
+    python3 tests/sheets.py --write   makes crates/sheets/stdin and crates/sheets/stdout
+    python3 tests/sheets.py --check   holds these files, to which the gate holds the program, to what is worked out
 """
 import struct
 from io import BytesIO
@@ -16,7 +16,6 @@ SERIAL = 0x01020304
 UNITS = [SERIAL + n for n in (0, 1, 2 ** 8, 2 ** 16, 2 ** 24)] + [0x04030201, SERIAL + 2 ** 32, 0, -1, -SERIAL, LARGEST, LEAST]
 TESTS = [p[:3] for p in PRINTED if p[0] in (1, 4, 5)]
 FARTHEST = (5, ms(90), ms(360) - 1)
-PRIME = 1_000_000_007
 
 
 def sheet(serial, codes=(), places=(), datums=None, count=None):
@@ -80,30 +79,30 @@ def lent(unit, given, out, room):
 
 
 def into(name, unit, given, size, room=None):
-    answer, out = lent(unit, given, b'#' * size, size if room is None else room)
-    return f'{name}: {answer} {out.hex()}'
+    room = size if room is None else room
+    answer, out = lent(unit, given, b'#' * size, room)
+    question = b'o' + program.number(unit) + program.text(given) + program.count(size) + program.count(room)
+    return f'{name}:', question, f' {answer} {out.hex()}'
 
 
-def tried(given, out):
-    """The digit of the sheet's refusal, or of its first point's, or 0; and the buffer."""
-    answer, out = lent(7, given, out, len(out))
-    verb, n = answer.split()
-    return str(out[6]) if verb == 'wrote' else n, out
+def several(name, sheets):
+    """Into one buffer: the digit of each sheet's refusal, or of its first point's, or 0; and the buffer after the last."""
+    digits, out = '', b'#' * 47
+    for given in sheets:
+        answer, out = lent(7, given, out, len(out))
+        verb, n = answer.split()
+        digits += str(out[6]) if verb == 'wrote' else n
+    return f'{name}: ', b's' + b''.join(b'+' + program.text(given) for given in sheets) + b'.', f'{digits} {out.hex()}'
 
 
 def cuts(name, given):
     """The first bytes, none to all, and one byte after them."""
-    digits, out = '', b'#' * 47
-    for n in range(len(given) + 2):
-        digit, out = tried((given + b'\0')[:n], out)
-        digits += digit
-    return f'{name}: {digits} {out.hex()}'
+    return several(name, [(given + b'\0')[:n] for n in range(len(given) + 2)])
 
 
 def changed(given, place):
     """Every byte at one place."""
-    digits = [tried(given[:place] + bytes([b]) + given[place + 1:], b'#' * 47)[0] for b in range(256)]
-    return f'byte {place}: ' + ''.join(digits)
+    return several(f'byte {place}', [given[:place] + bytes([b]) + given[place + 1:] for b in range(256)])
 
 
 def refusals():
@@ -177,23 +176,23 @@ def moved(place, i):
 def of_many():
     """Fifteen points, and as many as there may be."""
     places = mixed()
-    lines = [into('fifteen points', 7, sheet(7, range(1, 7), places), 203)]
+    cases = [into('fifteen points', 7, sheet(7, range(1, 7), places), 203)]
     for points, size in ((0, 21), (1, 21), (499, 6508), (500, 6508), (501, 21)):
         given = sheet(7, range(1, 7), [moved(places[i % len(places)], i) for i in range(points)])
-        answer, out = lent(7, given, b'#' * size, size)
-        lines.append(f'points {points}: {answer} ' + (str(int.from_bytes(out, 'big') % PRIME) if points == 499 else out.hex()))
-    return lines
+        cases.append(into(f'points {points}', 7, given, size))
+    return cases
 
 
-def text():
-    lines = ['sheet', into('serial 1', 1, sheet(1), 8), into('largest serial', 2 ** 32 - 1, sheet(2 ** 32 - 1), 8)]
-    lines += [into('largest serial, unit -1', -1, sheet(2 ** 32 - 1), 8)]
-    lines += [into(f'unit {n}', n, sheet(SERIAL), 8) for n in UNITS]
-    lines += [into(name, unit, given, 8) for name, unit, given in refusals()]
-    lines += [into(f'no points, room {room}', 7, sheet(7), 47, room) for room in (6, 5, 0)] + of_three()
-    lines += [changed(sheet(7, [2, 5], [FARTHEST]), place) for place in range(18)] + of_many()
-    return '\n'.join(lines) + '\n'
+def cases():
+    found = [('sheet', b'', ''), into('serial 1', 1, sheet(1), 8), into('largest serial', 2 ** 32 - 1, sheet(2 ** 32 - 1), 8)]
+    found += [into('largest serial, unit -1', -1, sheet(2 ** 32 - 1), 8)]
+    found += [into(f'unit {n}', n, sheet(SERIAL), 8) for n in UNITS]
+    found += [into(name, unit, given, 8) for name, unit, given in refusals()]
+    found += [into(f'no points, room {room}', 7, sheet(7), 47, room) for room in (6, 5, 0)] + of_three()
+    found += [changed(sheet(7, [2, 5], [FARTHEST]), place) for place in range(18)] + of_many()
+    return found
 
 
 if __name__ == '__main__':
-    program.must_print('sheets', text())
+    found = cases()
+    program.ended(program.held(program.of_cases('sheets', found)), f'sheets: {len(found)} lines agree')
