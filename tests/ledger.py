@@ -1,13 +1,15 @@
 #!/usr/bin/env python3
-"""docs/LEDGER.md names what is there: each definition, function, theorem and must-fail edit that it cites exists, and what stands
-before a place in brackets, a file or a folder of antt or a crate of edits, exists there; each theorem of a Demands.antt and each
-must-fail edit is so cited, in its column, with its own crate; and no cell is empty."""
+"""docs/LEDGER.md names what is there: each definition, function, theorem and slip that it cites exists, and what stands before a
+place in brackets, a file or a folder of antt or a crate of slips, exists there; each theorem of a Demands.antt and each slip is so
+cited, in its column, with its own crate; and no cell is empty."""
 import glob
 import os
 import re
 import sys
 
-COLUMNS = ['promise', 'definition', 'function', 'theorem', 'must-fail edits', 'run']
+import slips
+
+COLUMNS = ['promise', 'definition', 'function', 'theorem', 'slips', 'run']
 # names, each with a word on it or none, and where they are
 PLACED = r'((?:`[^`]+`(?:: [^`,;()]*)?(?:, )?)+) \(([\w/]+)\)'
 
@@ -22,13 +24,14 @@ def declared(pattern, expression):
 
 NAME = r'^ *(?:(?:unfoldable|abbrev|pub|record|data) )*(\S+) (?:[({][^(){}]*[)}] )*:'
 CRATES = os.listdir('crates')
+SLIPS = {(slip.crate, slip.name) for found in slips.every().values() for slip in found}
 there = {
     'definition': declared('crates/*/specs/**/*.antt', NAME),
     'function': declared('crates/*/src/**/*.rt', r'\bfn (\w+)'),
     'theorem': declared('crates/*/proofs/*.antt', NAME),
-    'must-fail edits': {os.path.basename(p)[:-len('.edit')] for p in glob.glob('crates/*/must-fail/*.edit')},
+    'slips': {name for _, name in SLIPS},
 }
-to_cite = {('must-fail edits', p.split('/')[1], os.path.basename(p)[:-len('.edit')]) for p in glob.glob('crates/*/must-fail/*.edit')}
+to_cite = {('slips', crate, name) for crate, name in SLIPS}
 for path in glob.glob('crates/*/proofs/Demands.antt'):
     with open(path, encoding='utf-8') as f:
         blocks = re.split(r'\n(?=\S)', f.read())
@@ -38,9 +41,9 @@ for path in glob.glob('crates/*/proofs/Demands.antt'):
 
 
 def at(place):
-    """What is declared where a cell says, in a file or a folder of antt; the edits of a crate."""
+    """What is declared where a cell says, in a file or a folder of antt; the slips of a crate."""
     if place in CRATES:
-        return {os.path.basename(p)[:-len('.edit')] for p in glob.glob(f'crates/{place}/must-fail/*.edit')}
+        return {name for crate, name in SLIPS if crate == place}
     return declared(f'crates/{place}.antt', NAME) | declared(f'crates/{place}/**/*.antt', NAME)
 
 

@@ -1,11 +1,10 @@
 #!/usr/bin/env python3
-"""Each must-fail edit of a source is a wrong program: built with it and run with no proof, its program does not print
-what it must, or a run that checks the machine's rules stops.
+"""Each slip of a program is a wrong program: built with it alone and run with no proof, a program of its crate does not print what
+it must, or a run that checks the machine's rules stops.
 
 This is what a refusal alone does not show, since the prover also refuses a right program that the proof was not written
-for. An edit of the definitions alone has no program, and is left to tests/must_fail.py.
+for. A slip of the definitions alone has no program, and is left to tests/must_fail.py.
 """
-import glob
 import os
 import shutil
 import subprocess
@@ -13,75 +12,53 @@ import sys
 import tempfile
 from concurrent.futures import ThreadPoolExecutor
 
+import slips
+
 # the programs that run a crate, of which one at least must go wrong, where they are not `pages` alone
 PROGRAMS = {
-    'kinds': ['pages', 'texts'], 'position': ['texts'], 'numbers': ['sheets'], 'layout': ['sheets'], 'sheet': ['sheets'],
-    'decimal': ['points'], 'line': ['points'], 'stream': ['lines'], 'lines': ['lines'], 'buckettin': ['calls'],
+    'whole': ['figures', 'lines'], 'kinds': ['figures'], 'equation': ['figures', 'pages'], 'position': ['texts'], 'numbers': ['sheets'],
+    'layout': ['sheets'], 'sheet': ['sheets'], 'decimal': ['points'], 'line': ['points'], 'stream': ['lines'], 'lines': ['lines'],
+    'buckettin': ['calls'],
 }
 
 
-def programs(edit):
-    return PROGRAMS.get(edit.split('/')[1], ['pages'])
+def programs(crate):
+    return PROGRAMS.get(crate, ['pages'])
 
 
-def tried(name, edit=None):
-    """What `rt try` says of a program in a copy of the sources with this edit: its status and its words."""
-    room = tempfile.mkdtemp()
-    try:
+def tried(name, slip=None):
+    """What `rt try` says of a program in a copy of the sources with this slip: its status and its words."""
+    with tempfile.TemporaryDirectory() as room:
         shutil.copy('crates.txt', room)
-        shutil.copytree('crates', os.path.join(room, 'crates'))
-        if edit:
-            apply(edit, room)
+        shutil.copytree('crates', os.path.join(room, 'crates'), ignore=shutil.ignore_patterns('proofs', 'must-fail'))
+        if slip:
+            slips.apply(slip, room)
         run = subprocess.run(['rt', 'try', name], cwd=room, capture_output=True, text=True)
         return run.returncode, run.stdout + run.stderr
-    finally:
-        shutil.rmtree(room)
 
 
-def seen(edit):
-    """What became of the first of its programs that goes wrong with an edit, or of the last."""
-    for name in programs(edit):
-        status, said = tried(name, edit)
+def seen(slip):
+    """What became of the first of its programs that goes wrong with a slip, or of the last."""
+    for name in programs(slip.crate):
+        status, said = tried(name, slip)
         if status != 0:
             break
     return name, status, said
 
 
-def apply(edit, room):
-    place = old = None
-    with open(edit, encoding='utf-8') as f:
-        lines = f.read().split('\n')
-    for line in lines:
-        if line.startswith('file: '):
-            place = os.path.join(room, 'crates', edit.split('/')[1], line[len('file: '):])
-        elif line.startswith('old: '):
-            old = line[len('old: '):]
-        elif line.startswith('new: '):
-            with open(place, encoding='utf-8') as f:
-                text = f.read()
-            if text.count(old) != 1:
-                raise ValueError(f'{edit}: {old!r} occurs {text.count(old)} times')
-            with open(place, 'w', encoding='utf-8') as f:
-                f.write(text.replace(old, line[len('new: '):]))
-
-
-def of_source(edit):
-    with open(edit, encoding='utf-8') as f:
-        return 'file: src/' in f.read()
-
-
 wrong = []
 names = sorted({'pages'}.union(*PROGRAMS.values()))
-edits = [e for e in sorted(glob.glob('crates/*/must-fail/*.edit')) if of_source(e)]
+all_slips = [slip for found in slips.every().values() for slip in found if slips.is_program(slip)]
 with ThreadPoolExecutor(os.cpu_count()) as pool:
-    unedited, runs = pool.map(tried, names), pool.map(seen, edits)
+    unedited, runs = pool.map(tried, names), pool.map(seen, all_slips)
 for name, (status, said) in zip(names, unedited):
     if status != 0:
         wrong.append(f'{name}, unedited, ends with {status}: {said[:200]}')
-for edit, (name, status, said) in zip(edits, runs):
+for slip, (name, status, said) in zip(all_slips, runs):
+    where = f'{slip.crate}/{slip.edit}: {slip.name}'
     if status == 0:
-        wrong.append(f'{edit}: {name} prints what it must all the same')
-    elif 'FAIL: ' not in said:
-        wrong.append(f'{edit}: it was not run: {said[:200]}')
-print('\n'.join(wrong) or f'wrong programs: {len(edits)} edits, each seen to go wrong in its program')
-sys.exit(1 if wrong or not edits else 0)
+        wrong.append(f'{where}: {name} prints what it must all the same')
+    elif said.count('FAIL: ') <= said.count('did not finish within'):
+        wrong.append(f'{where}: it was not run, or not to its end: {said[:200]}')
+print('\n'.join(wrong) or f'wrong programs: {len(all_slips)} slips, each seen to go wrong in its program')
+sys.exit(1 if wrong or not all_slips else 0)
