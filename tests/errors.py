@@ -4,7 +4,7 @@
     python3 tests/errors.py           prints the rows of the table in docs/ERRORS.md
     python3 tests/errors.py --check   holds that page to them and to the sources that it quotes
 
-Over each area: its corners, points along its edges, and points spread over it. The exact value is a whole number over one
+Over each area: its corners, points along its edges, points spread over it, and then points near those that were farthest off. The exact value is a whole number over one
 power of 360,000,000,000,000, in Python's whole numbers. Nothing of the crates is used in the working. The bounds are read from
 crates/datum/specs/Exact.antt, and are also held to demand 3 and to the same calculus in fractions. The working rule is
 tests/pages.py's once more, in whole numbers, which are over ten times as fast as its fractions.
@@ -23,16 +23,22 @@ from pages import DEGREE, SCALE
 BOTTOM = 360_000_000_000_000                # of exact U and V
 LACKING = [BOTTOM ** (9 - n) for n in range(10)]
 WHOLE = BOTTOM ** 18
-ALONG = 5_000                               # steps along each edge
-WITHIN = 200_000                            # points within
+ALONG = 20_000                              # steps along each edge
+WITHIN = 100_000                            # points within
+NEAR = 5_000                                # ms to each side of the farthest off, in each coordinate
+# where longer searches have seen more than these points show
+ALSO = {
+    1: [(124_767_000, 124_799_998)], 2: [(20_767_180, 51_608_603)], 4: [(94_362_562, 182_694_353)], 5: [(35_700_000, 295_148_885)],
+}
 # How far a point within is beyond the one before it, as a fraction of each side in 64 bits: g and g * g, where g is the root of
 # g ** 3 + g ** 2 = 1. Their multiples spread evenly over a square.
 BEYOND = (0xC13FA9A902A6328F, 0x91E10DA5C79E7B1D)
 
 
 def places(code):
-    """Edges with their corners, and points within, as latitude and longitude in ms."""
+    """Edges with their corners, points within, and points that were found before, as latitude and longitude in ms."""
     south, north, west, east = pages.AREAS[code]
+    yield from ALSO.get(code, ())
     for k in range(ALONG + 1):
         latitude = south + (north - south) * k // ALONG
         yield from ((latitude, west), (latitude, east))
@@ -75,17 +81,32 @@ def exact(equations, a, b):
     return [sum(c * (us[i] * vs[j]) for _, c, i, j in terms) for _, _, terms in equations]
 
 
+def near(code, place):
+    """Points of the area on both sides of a place, in each coordinate."""
+    south, north, west, east = pages.AREAS[code]
+    latitude, longitude = place
+    yield from ((x, longitude) for x in range(max(south, latitude - NEAR), min(north, latitude + NEAR) + 1))
+    yield from ((latitude, x) for x in range(max(west, longitude - NEAR), min(east, longitude + NEAR) + 1))
+
+
 def largest(code):
     """The code, how many points were tried, and of each equation the largest distance in units and its place."""
     frame, equations = document_000.frame(code), document_000.equations(code)
     seen, tried = [(-1, None)] * len(equations), 0
-    for place in places(code):
-        a, b = tops(frame, place)
-        for n, (x, value) in enumerate(zip(worked(equations, a, b), exact(equations, a, b))):
-            distance = abs(x * WHOLE - value)
-            if distance > seen[n][0]:
-                seen[n] = distance, place
-        tried += 1
+
+    def look(found, equations, first):
+        nonlocal tried
+        for place in found:
+            a, b = tops(frame, place)
+            for n, (x, value) in enumerate(zip(worked(equations, a, b), exact(equations, a, b)), first):
+                distance = abs(x * WHOLE - value)
+                if distance > seen[n][0]:
+                    seen[n] = distance, place
+            tried += 1
+
+    look(places(code), equations, 0)
+    for n, (_, place) in enumerate(list(seen)):
+        look(near(code, place), equations[n:n + 1], n)
     return code, tried, [(Fraction(distance, WHOLE), place) for distance, place in seen]
 
 
