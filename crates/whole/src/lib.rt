@@ -6,11 +6,11 @@ ghost use lib.IntN.{pos, natAbs};
 ghost use lib.Signed.{_<ℤ_};
 ghost use Rattle.whole.specs.Round.{roundHalfUp, roundDiv, scale};
 
-// A number in hundred-millionths: u, v, K and the powers of u and v.
+// A number in hundred-millionths, as u and v are. K and the powers of u and v, which are bare numbers, have the same scale.
 pub struct Parts(pub i64);
 
 impl Parts {
-    // what 1 is in them
+    // what 1 is
     pub const SCALE: i64 = 100_000_000;
 }
 
@@ -32,8 +32,8 @@ pub fn rounded(n: i64) -> i64
     if n < 0 { -q } else { q }
 }
 
-// p * u / Parts::SCALE to the nearest, of sizes: u is at most 10, and p so small that a u64 holds the answer, though it may not hold
-// p * u. p is split by the scale, and what is left of it times u is small, so that half of the scale can be added.
+// p * u / Parts::SCALE to the nearest, of sizes: u is at most 10, and p so small that a u64 holds the answer, though it may not
+// hold p * u. p is split by the scale, and what is left of it times u is small, so that half of the scale can be added.
 pub fn scaled(p: u64, u: u64) -> u64
     requires { ⌜ (p ≤ 1000000000000000000) × (u ≤ 1000000000) ⌝ }
     ensures { λ r. ⌜ r ≡ roundHalfUp (p * u) scale ⌝ }
