@@ -158,7 +158,7 @@ def main():
     else:
         wrong, edits, count = read()
     for crate, name, own in table(slips.every()):
-        print(f'{crate:10} {name:24} {", ".join(own)}')
+        print(f'{crate:10} {name:26}{", ".join(own)}')
         if len(own) < FEWEST:
             wrong.append(f'{crate}: {name} has {len(own)} slips of its own, and a public function has {FEWEST} at least')
     print('\n'.join(wrong) or f'must-fail: {count} slips in {edits} edits, each with an error of its own')

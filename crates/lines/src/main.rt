@@ -151,6 +151,13 @@ fn write(reading: Reading, bytes: &[u8], put: &[u8]) -> Handed
     ensures { λ r. ⌜ r .bytes ≤ length (now (put .entry)) ⌝ }
     ensures { λ r. ⌜ (r .«is_written» ≡ true → r .bytes ≡ length (answers (held (reading .begun)) (now (bytes .entry)))) ⌝ }
 {
+    handed_over(put)
+}
+
+// By itself, so that no other bytes are at hand here.
+fn handed_over(put: &[u8]) -> Handed
+    ensures { λ r. ⌜ r .bytes ≡ length (now (put .entry)) ⌝ }
+{
     let is_written = io::write_all(STDOUT_FILENO, put);
     if !is_written {
         io::write_all(
