@@ -14,6 +14,7 @@ file name what is not there or answer another need, shows nothing, so no error m
 with a slip is wrong, and not only another than the one proved, tests/wrong_programs.py shows by running it.
 """
 import collections
+import glob
 import os
 import re
 import shutil
@@ -27,6 +28,7 @@ UNFIT = re.compile(
     r'can be named from here|not in scope(?! here)|Parse|is not a module|expected an? |wrong number of|has no field'
     r'|expected type `tie\.Need-')
 FEWEST = 2                     # slips of its own that a public function has
+OF_TESTS = {'ask', 'show'}      # libraries of the test programs alone, which are not sold
 
 # an error is its line and the indented lines under it
 ERROR = re.compile(r'^(\S+?):(\d+):(\d+): error: (?:`([^`]+)`)?.*\n(?:  .*\n)*', re.M)
@@ -91,16 +93,17 @@ def refused(edit, found, root):
     return wrong
 
 
-def table(edits):
-    """The slips of each public function, by name."""
-    own = collections.defaultdict(set)
-    for found in edits.values():
+def table(root='.'):
+    """The slips of each public function of every library, by name."""
+    own, crates = collections.defaultdict(set), os.path.join(root, 'crates')
+    for found in slips.every(root).values():
         for slip in found:
-            for kind, name in slips.touched(slip):
+            for kind, name in slips.touched(slip, crates):
                 if kind == 'fn':
                     own[slip.crate, name].add(slip.name)
-    for crate in sorted({crate for crate, _ in own}):
-        for name in slips.promising(crate):
+    for path in sorted(glob.glob(f'{crates}/*/src/lib.rt')):
+        crate = path.split('/')[-3]
+        for name in slips.promising(crate, crates) if crate not in OF_TESTS else ():
             yield crate, name, sorted(own[crate, name])
 
 
@@ -132,7 +135,7 @@ def write(path, found):
 
 def self_test():
     """Crate `whole` with a wrong `size`; beside it a right program in the place of a slip, and a right `rounded`, which fails only
-    because it calls `size`: both are found out, and the wrong one is not."""
+    because it calls `size`: both are found out, and the wrong one is not. And so are its five functions, none of which has two."""
     slip = slips.Slip('whole', 'test', 'wrong', 'one off below zero', [], [('src/lib.rt', '(-(x + 1)) as u64 + 1', '(-(x + 1)) as u64 + 0')])
     right = slips.Slip('whole', 'test', 'right', 'the lesser of two', [], [('src/lib.rt', 'if a < b { a } else { b }', 'if a <= b { a } else { b }')])
     caller = slips.Slip('whole', 'test', 'caller', 'nothing', [], [('src/lib.rt', 'if n < 0 { -q } else { q }', 'if n < 0 {  -q } else { q }')])
@@ -143,9 +146,10 @@ def self_test():
         write(os.path.join(root, 'crates/whole/must-fail/test.edit'), [slip, right, caller])
         subprocess.run(['rt', 'must-fail', 'whole'], cwd=root, stdout=subprocess.DEVNULL)
         wrong, _, _ = read(root)
+        few = [name for _, name, own in table(root) if len(own) < FEWEST]
     seen = [re.search(r': (\w+) has no error of its own', line)[1] for line in wrong]
-    print(f'found out: {", ".join(seen)}')
-    return seen == ['right', 'caller']
+    print(f'found out: {", ".join(seen)}; with too few slips: {", ".join(few)}')
+    return seen == ['right', 'caller'] and sorted(few) == ['least', 'round_div', 'rounded', 'scaled', 'size']
 
 
 def main():
@@ -157,7 +161,7 @@ def main():
             wrong, edits, count = read(root)
     else:
         wrong, edits, count = read()
-    for crate, name, own in table(slips.every()):
+    for crate, name, own in table():
         print(f'{crate:10} {name:26}{", ".join(own)}')
         if len(own) < FEWEST:
             wrong.append(f'{crate}: {name} has {len(own)} slips of its own, and a public function has {FEWEST} at least')
