@@ -52,10 +52,15 @@ static void seen(int right, const char *what)
 int main(void)
 {
     static const uint8_t sheet[] = {0,0,0,7, 0, 0,0};
+    static const uint32_t none[] = {BUCKETTIN_SHEET + 1, 255, 256, INT32_MAX, UINT32_MAX};
     uint8_t out[36], result[6];
     memset(out, '#', sizeof out);
     memset(result, '#', sizeof result);
 #include "examples.h"
+    seen(strcmp(buckettin_why(BUCKETTIN_AREA), "the point is outside its datum's area") == 0, "the words of 6");
+    for (size_t k = 0; k < sizeof none / sizeof none[0]; k++) {
+        seen(strcmp(buckettin_why(none[k]), "a number that is no refusal") == 0, "the words of a number that is none");
+    }
     printf("%d of %d are so\n", count - wrong, count);
     return wrong != 0;
 }

@@ -2,20 +2,24 @@
 """include/buckettin.h beside what it declares: python3 tests/header.py, where rt staticlib buckettin has been run.
 
 No proof sees the header. Its declarations are compared with the exported functions and their structs in
-crates/buckettin/src/lib.rt (names, order, parameters, widths) and with the symbols of the archive; its table of areas with
-tests/pages.py, and its orders of refusals with document 01's; and a program in C that is built from it, tests/header.c, asserts
-the layout of each struct and makes each call that a comment of the header has as an example, as it stands there.
+crates/buckettin/src/lib.rt (names, order, parameters, widths) and with the symbols of the archive; its names of codes and of
+refusals with the definitions; its table of datums with tests/pages.py and docs/document-000.txt, and its orders of refusals with
+document 01's; a compiler must warn of each answer that is dropped; and a program in C that is built from it, tests/header.c,
+asserts the layout of each struct and makes each call that a comment of the header has as an example, as it stands there.
 """
+import os
 import re
 import subprocess
 import sys
 import tempfile
 
+import document_000
 import pages
 import program
 
 HEADER = 'include/buckettin.h'
 SOURCE = 'crates/buckettin/src/lib.rt'
+WIDTH = 125
 WIDTHS = {'i64': 'int64_t', 'i32': 'int32_t', 'u32': 'uint32_t', 'f64': 'double'}
 BYTES = {'&[u8]': ('const uint8_t *', 'length'), '&mut[u8]': ('uint8_t *', 'room')}
 
@@ -60,7 +64,34 @@ def bare(header):
 
 
 def declared(header):
-    return [re.sub(r' +', ' ', line) for line in re.findall(r'^\w+ +buckettin_\w+\(.*\);', bare(header), re.M)]
+    """The declarations, each of which asks that its answer is looked at."""
+    found = re.findall(r'^(\w+ +buckettin_\w+\([^()]*\)) BUCKETTIN_MUST_USE;', bare(header), re.M)
+    return [re.sub(r'\s+', ' ', line) + ';' for line in found]
+
+
+def enumerated(header, name):
+    """The names of an enum, without their first word, by their numbers."""
+    body = re.search(rf'enum {name} \{{\n(.*?)\n\}};', header, re.S)[1]
+    rows = [re.fullmatch(r' {4}BUCKETTIN_(\w+) = (\d+),?', row) for row in body.split('\n')]
+    return {int(row[2]): row[1] for row in rows}
+
+
+def codes():
+    """The datums, by their codes, as the definition lists them."""
+    names = re.search(r'^pages = (.*) ∷ \[\]$', content('crates/tables/specs/Tables.antt'), re.M)[1]
+    return {code: name.upper() for code, name in enumerate(names.split(' ∷ '), 1)}
+
+
+def refusals():
+    """The refusals, by their numbers, as the definition gives them; and 0 for none."""
+    found = re.findall(r'^numberOf (\w+) = (\d+)$', content('crates/kinds/specs/Answer.antt'), re.M)
+    return {0: 'ANSWERED', **{int(number): name.upper() for name, number in found}}
+
+
+def fits(header):
+    """What the table of the header says of the fit of each datum's equations, in metres."""
+    rows = re.findall(r"^ +(\d) +\w.*°\d\d' +(\d[\d. ]*)$", header, re.M)
+    return {int(code): figures.split() for code, figures in rows}
 
 
 def typedefs(header):
@@ -73,7 +104,7 @@ def typedefs(header):
 
 def areas(header):
     """The ends of each area, in ms, as the table of the header has them."""
-    rows = re.findall(r"^ +(\d) +\w.*?((?: +\d+°\d\d'(?: to)?){4})$", header, re.M)
+    rows = re.findall(r"^ +(\d) +\w.*?((?: +\d+°\d\d'(?: to)?){4}) ", header, re.M)
     return {int(code): tuple(pages.ms(int(d), int(m)) for d, m in re.findall(r"(\d+)°(\d\d)'", ends)) for code, ends in rows}
 
 
@@ -85,28 +116,52 @@ def symbols():
 
 def not_understood(header, names):
     """What the expressions above would pass over: another form of declaration, typedef or row."""
-    found = set(re.findall(r'\bbuckettin_\w+(?=\()', bare(header)))
+    found = set(re.findall(r'\bbuckettin_\w+(?=\()', bare(header))) - {'buckettin_why'}
     wrong = [] if found == names else [f'declarations not understood: {sorted(found ^ names)}']
     wrong += [] if bare(header).count('typedef') == len(typedefs(header)) else ['a typedef is not understood']
     rows = len(re.findall(r'^ +\d+ +\w.*°', header, re.M))
     return wrong + ([] if rows == len(areas(header)) else ['a row of the areas is not understood'])
 
 
-# Document 01's orders. That of a sheet is told in words, which tests/hostile.py alone holds to what it does.
+# Document 01's orders.
 ORDERS = {
     'shift': '4, 5, 3, 6', 'geoid': '4, 5, 3, 6', 'refusal': '4, 3, 6', 'read_latitude': '1, 2, 3', 'read_longitude': '1, 2, 3',
-    'write_latitude': '3, 7', 'write_longitude': '3, 7', 'line': '1, 2, 3, 4, 6, 7',
+    'write_latitude': '3, 7', 'write_longitude': '3, 7', 'sheet': '1, 9, 8, 1, 9, 1, 9, 1, 9, 1, 9, 7', 'line': '1, 2, 3, 4, 6, 7',
 }
+
+
+def order(comment):
+    """The order of refusals that a comment tells, in a sentence or as a table's first column."""
+    told = re.search(r'in this order: ([\d, ]*\d)', ' '.join(comment.split()))
+    table = re.search(r'the first row that holds:\n\n(.*?)\n\n', comment, re.S)
+    return told[1] if told else ', '.join(line.split()[0] for line in table[1].split('\n')) if table else None
 
 
 def orders(header):
     """The order of refusals that the comment before each declaration tells."""
-    found = {}
-    for comment, name in re.findall(r'/\*((?:(?!\*/).)*)\*/\n\w+ +buckettin_(\w+)\(', header, re.S):
-        told = re.search(r'in this order: ([\d, ]*\d)', ' '.join(comment.split()))
-        if told:
-            found[name] = told[1]
-    return found
+    comments = re.findall(r'/\*((?:(?!\*/).)*)\*/\n\w+ +buckettin_(\w+)\(', header, re.S)
+    return {name: order(comment) for comment, name in comments if order(comment)}
+
+
+def unwarned(header):
+    """The calls of which a compiler lets the answer be dropped."""
+    calls = {}
+    for line in declared(header):
+        name, given = re.search(r'(buckettin_\w+)\((.*)\)', line).groups()
+        passed = ', '.join(re.findall(r'(\w+)(?:,|$)', given))
+        calls[name] = f'void dropped_{name}({given}) {{ {name}({passed}); }}'
+    text = '\n'.join(['#include "buckettin.h"', *calls.values(), ''])
+    command = ['x86_64-linux-gnu-gcc', '-S', '-o', os.devnull, '-I', 'include', '-xc', '-']
+    said = subprocess.run(command, input=text, capture_output=True, text=True, check=True, env={**os.environ, 'LC_ALL': 'C'})
+    return sorted(set(calls) - set(re.findall(r"ignoring return value of '(\w+)'", said.stderr)))
+
+
+def words(header):
+    """The words of each refusal, as buckettin_why has them, and as the source has them beside its cases."""
+    body = re.search(r'words\[\] = \{\n(.*?)\n    \};', header, re.S)[1]
+    found = re.findall(r'"(.*)"', re.sub(r'"\n +"', '', body))
+    cases = re.search(r'pub enum Refusal \{\n(.*?)\n\}', content('crates/kinds/src/lib.rt'), re.S)[1]
+    return found, ['answered'] + re.findall(r'^ +// (.*)\n', cases, re.M)
 
 
 EXAMPLE = re.compile(
@@ -137,18 +192,36 @@ def run(lines):
         return subprocess.run(command).returncode
 
 
-def main():
-    header, source = content(HEADER), content(SOURCE)
+def version(header):
+    """The version as a number, and its text as that number."""
+    number = re.search(r'^#define BUCKETTIN_VERSION (\d+)$', header, re.M)[1]
+    parts = re.search(r'^#define BUCKETTIN_VERSION_TEXT "(\d+)\.(\d+)\.(\d+)"$', header, re.M).groups()
+    return int(number), sum(int(part) * unit for part, unit in zip(parts, (1_000_000, 1000, 1)))
+
+
+def compared(header, source):
+    """What is wrong with the declarations, structs, names and tables of the header."""
     wrong = [f'the source asks for {line}' for line in exported(source) if line not in declared(header)]
     wrong += [f'no export is {line}' for line in declared(header) if line not in exported(source)]
     wrong += [] if structs(source) == typedefs(header) else [f'structs differ: {structs(source)} and {typedefs(header)}']
-    wrong += [] if areas(header) == pages.AREAS else [f'areas differ: {areas(header)} and {pages.AREAS}']
+    for what, told, must in (
+            ('areas', areas(header), pages.AREAS), ('codes', enumerated(header, 'buckettin_codes'), codes()),
+            ('refusals', enumerated(header, 'buckettin_refusals'), refusals()), ('orders', orders(header), ORDERS),
+            ('words', *words(header)), ('versions', *version(header)),
+            ('fits', fits(header), {code: document_000.rms(code) for code in pages.AREAS})):
+        wrong += [] if told == must else [f'{what} differ: {told} and {must}']
+    wrong += [f'line {k} has {len(line)} characters' for k, line in enumerate(header.split('\n'), 1) if len(line) > WIDTH]
+    return wrong + [f'the answer of {name} may be dropped' for name in unwarned(header)]
+
+
+def main():
+    header, source = content(HEADER), content(SOURCE)
+    wrong = compared(header, source)
     names = {re.search(r'buckettin_\w+(?=\()', line)[0] for line in declared(header)}
     given, taken = symbols()
     wrong += [] if given == names else [f'the archive gives {sorted(given ^ names)} or the header does, but not both']
     wrong += [] if taken == {'memcpy'} else [f'the archive takes {sorted(taken)}']
     wrong += not_understood(header, names)
-    wrong += [] if orders(header) == ORDERS else [f'orders differ: {orders(header)} and {ORDERS}']
     lines, called = examples(header)
     wrong += [f'{name} has no example' for name in sorted(names - called)]
     print('\n'.join(wrong) or f'the header: {len(names)} functions and {len(structs(source))} structs as in the source')
