@@ -90,8 +90,8 @@ static inline const char *buckettin_why(uint32_t refusal)
         "the point is outside its datum's area",
         "the lent buffer is too short",
         "the sheet's serial is not zero and not the unit's",
-        "the sheet's serial is zero, a count is over its limit, codes do not rise or are not 1 to 6, or a point's code is "
-        "not listed"
+        ("the sheet's serial is zero, a count is over its limit, codes do not rise or are not 1 to 6, or a point's code is "
+         "not listed")
     };
     return refusal < sizeof words / sizeof words[0] ? words[refusal] : "a number that is no refusal";
 }

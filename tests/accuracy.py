@@ -192,16 +192,11 @@ def claims():
     """What document 000 claims, and the proved bounds: no PROJ is needed."""
     rows = []
     for code, bounds in errors.proved().items():
-        told = document_000.page(code)
-        told = told[told.index(' reproduced '):]
-        rms = re.findall(r'(?:\\pm|±) ?(\d+\.\d+)', told)
-        points = re.search(r' at ([\d, and]+) comparison points|(\d+) sites involved in the comparison', told)
+        rms = ', '.join(metres for _, metres in document_000.differences(code))
+        points = ', '.join(map(str, document_000.compared(code)))
         *angles, height = bounds
-        if len(rms) != len(bounds):
-            raise SystemExit(f'document 000 has {len(rms)} RMS differences of code {code}')
         proved = ', '.join([f'{h / 1000 / pages.ANGLE:.8f}"' for h in angles] + [f'{height / 1000:.3f} mm'])
-        points = (points[1] or points[2]).replace('and ', '')
-        rows.append([str(code), NAMES[code], ', '.join(rms), points, proved, most(code, angles)])
+        rows.append([str(code), NAMES[code], rms, points, proved, most(code, angles)])
     return rows
 
 

@@ -192,6 +192,11 @@ def run(lines):
         return subprocess.run(command).returncode
 
 
+def fit(code):
+    """What document 000 claims of them."""
+    return [metres for _, metres in document_000.differences(code)]
+
+
 def version(header):
     """The version as a number, and its text as that number."""
     number = re.search(r'^#define BUCKETTIN_VERSION (\d+)$', header, re.M)[1]
@@ -208,7 +213,7 @@ def compared(header, source):
             ('areas', areas(header), pages.AREAS), ('codes', enumerated(header, 'buckettin_codes'), codes()),
             ('refusals', enumerated(header, 'buckettin_refusals'), refusals()), ('orders', orders(header), ORDERS),
             ('words', *words(header)), ('versions', *version(header)),
-            ('fits', fits(header), {code: document_000.rms(code) for code in pages.AREAS})):
+            ('fits', fits(header), {code: fit(code) for code in pages.AREAS})):
         wrong += [] if told == must else [f'{what} differ: {told} and {must}']
     wrong += [f'line {k} has {len(line)} characters' for k, line in enumerate(header.split('\n'), 1) if len(line) > WIDTH]
     return wrong + [f'the answer of {name} may be dropped' for name in unwarned(header)]

@@ -91,15 +91,8 @@ AREAS = {
     5: (ms(5, 50), ms(9, 55), ms(79, 30), ms(82)),
     6: (ms(20), ms(26, 15), ms(51), ms(59)),
 }
-# Document 000's test points, with what it prints for them in seconds and metres.
-PRINTED = [
-    (1, ms(34, 43, 23) + 316, ms(32, 28, 6) + 26, '-3.885 -1.126 23.64'),
-    (2, ms(9, 19, 9) + 51, ms(12, 13, 50) + 125, '0.930 -2.348 13.43'),
-    (3, ms(64, 31, 9) + 64, ms(194, 37, 28) + 92, '-2.648 -9.525 19.20'),
-    (4, ms(24, 34, 55) + 61, ms(50, 59, 6) + 940, '2.465 -2.806 -29.64'),
-    (5, ms(7, 37, 2) + 730, ms(81, 40, 49) + 750, '-4.55'),
-    (6, ms(24, 58, 7) + 671, ms(55, 0, 7) + 720, '1.11'),
-]
+# Document 000's test points, in ms, with what it prints for them in seconds and metres.
+PRINTED = [(code, *document_000.test_case(code)) for code in AREAS]
 # The same worked by the rule: codes 1 and 2 as document 01 has them, the others as they were given by those who asked for them.
 WORKED = ['-388460 -112641 23638', '92953 -234783 13429', '-264775 -952519 19198', '246464 -280607 -29637', '-4547', '1110']
 CENTRES = ['-384288 -110294 24430', '49461 -262435 20013', '-208611 -819369 8352', '247363 -280439 -28376', '-979', '7464']
