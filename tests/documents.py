@@ -50,20 +50,37 @@ def ends(latitude, longitude):
     return tuple(pages.ms(int(degrees), int(minutes or 0)) for degrees, minutes in found)
 
 
+def front(cells):
+    """What a row of README.md's table of datums says, and what the papers do."""
+    code, _, _, gives, latitude, longitude, fit = cells
+    code = int(code)
+    told = gives, ends(latitude, longitude), re.findall(r'\d\.\d', fit)
+    return code, told, (document_000.gives(code).split(' to ')[0], pages.AREAS[code], header.fit(code))
+
+
+def ruled(cells):
+    """The same of docs/RULES.md."""
+    code, _, centre, factor, latitude, longitude, counts = cells
+    code = int(code)
+    frame = *map(int, re.findall(r'\d+', centre)), int(factor.replace('.', ''))
+    told = frame, ends(latitude, longitude), list(map(int, counts.split(', ')))
+    return code, told, (document_000.frame(code), pages.AREAS[code], [len(terms) for *_, terms in document_000.equations(code)])
+
+
+def printed(cells):
+    """The same of docs/LINES.md."""
+    code, _, gives, latitude, longitude = cells
+    code = int(code)
+    return code, (gives, ends(latitude, longitude)), (document_000.gives(code).split(' to ')[0], pages.AREAS[code])
+
+
 def datums():
-    """The tables of the datums in README.md and docs/RULES.md."""
+    """The tables of datums, each row and each code."""
     wrong = []
-    for code, cells in enumerate(rows(content('README.md'), 'code'), 1):
-        number, _, _, gives, latitude, longitude, fit = cells
-        told = int(number), gives, ends(latitude, longitude), re.findall(r'\d\.\d', fit)
-        must = code, document_000.gives(code).split(' to ')[0], pages.AREAS[code], header.fit(code)
-        wrong += [] if told == must else [f'README.md: code {code} is {told}, and the papers have {must}']
-    for code, cells in enumerate(rows(content('docs/RULES.md'), 'code'), 1):
-        number, _, centre, factor, latitude, longitude, counts = cells
-        frame = tuple(map(int, re.findall(r'\d+', centre))) + (int(factor.replace('.', '')),)
-        told = int(number), frame, ends(latitude, longitude), list(map(int, counts.split(', ')))
-        must = code, document_000.frame(code), pages.AREAS[code], [len(terms) for *_, terms in document_000.equations(code)]
-        wrong += [] if told == must else [f'docs/RULES.md: code {code} is {told}, and the papers have {must}']
+    for path, row in (('README.md', front), ('docs/RULES.md', ruled), ('docs/LINES.md', printed)):
+        found = list(map(row, rows(content(path), 'code')))
+        wrong += [] if [code for code, *_ in found] == list(pages.AREAS) else [f'{path}: has other codes']
+        wrong += [f'{path}: code {code} is {told}, and the papers have {must}' for code, told, must in found if told != must]
     return wrong
 
 
