@@ -2,13 +2,15 @@
 """The program `lines` on whole inputs, which is run and not proved: python3 tests/inputs.py, where rt check lines has been run.
 
 What it must print is worked out by tests/lines.py. The checks are of what lies outside the proofs: how an input comes in
-pieces and ends, how much of it is read, outputs and inputs that fail, stack and heap. Prints a line for each, and ends with an
-error where one fails.
+pieces and ends, how much of it is read, outputs and inputs that fail, stack and heap; and of the script ./lines, what it says, its
+exit status, and what it does where there is no toolchain. Prints a line for each, and ends with an error where one fails.
 """
 import os
 import random
 import re
 import resource
+import select
+import shutil
 import signal
 import subprocess
 import sys
@@ -26,11 +28,24 @@ SEED = 1989
 
 COMMAND = program.proved('lines')
 
+# What is said on standard error, by the program and by ./lines.
+AT_LIMIT = b'lines: 100,000,000 bytes were read, which is the most; any bytes that follow are not answered\n'
+UNREAD = b'lines: standard input could not be read\n'
+UNWRITTEN = b'lines: standard output could not be written\n'
+FULL = b'lines: standard output could not be written: No space left on device\n'
+CUT = b'lines: only the first 100,000,000 bytes were read and answered; docs/LINES.md says how to answer a larger input\n'
+REFUSED_WORDS = b'lines: it takes no arguments and reads standard input; ./lines --help says more\n'
+FIRST = b'lines: the first run proves and builds the program, which takes a few minutes\n'
+CLOSED = b'lines: standard input or standard output is closed\n'
+UNPROVED = b'lines: the program could not be proved and built\n'
+UNBUILT = b'lines: the program has not been built, and rt, of the Rattle toolchain, which builds it, is not on the path\n'
+NO_EMULATOR = b'lines: rt is not on the path, and on this machine its emulator is needed\nlines: the program ended with status 2\n'
+
 
 def printed(given, command=COMMAND):
-    """What the program makes of an input that comes through a pipe; none where it does not end as it should."""
-    done = subprocess.run(command, input=given, stdout=subprocess.PIPE, stderr=subprocess.DEVNULL, timeout=WAIT)
-    return done.stdout if done.returncode == 0 else None
+    """What the program makes of an input that comes through a pipe; none where it does not end as it should, and say nothing."""
+    done = subprocess.run(command, input=given, stdout=subprocess.PIPE, stderr=subprocess.PIPE, timeout=WAIT)
+    return done.stdout if (done.returncode, done.stderr) == (0, b'') else None
 
 
 def is_right(given):
@@ -51,16 +66,17 @@ def is_right_in_pieces(given, size):
         return status == 0 and out.read() == lines.printed(given)
 
 
-def is_right_at_limit(before, after):
+def is_right_at_limit(before, after, ended=(0, AT_LIMIT), command=COMMAND, end=LIMIT, taken=LIMIT):
     """A line of zero bytes, longer than any that is answered, then what ends at the limit, and what is beyond it, which is not
-    read."""
+    read: that it ended so is said."""
     with tempfile.TemporaryFile() as f:
-        f.truncate(LIMIT - len(before))
+        f.truncate(end - len(before))
         f.seek(0, os.SEEK_END)
         f.write(before + after)
         f.seek(0)
-        out = subprocess.run(COMMAND, stdin=f, stdout=subprocess.PIPE, check=True, timeout=WAIT).stdout
-        return out == lines.printed(b'overlong' + before) and os.lseek(f.fileno(), 0, os.SEEK_CUR) == LIMIT
+        done = subprocess.run(command, stdin=f, stdout=subprocess.PIPE, stderr=subprocess.PIPE, timeout=WAIT)
+        is_taken = os.lseek(f.fileno(), 0, os.SEEK_CUR) == taken
+    return is_taken and done.stdout == lines.printed(b'overlong' + before) and (done.returncode, done.stderr) == ended
 
 
 def ends_at_closed_output(is_ignored):
@@ -74,7 +90,7 @@ def ends_at_closed_output(is_ignored):
         done = subprocess.run(COMMAND, stdin=f, stdout=writing, stderr=subprocess.PIPE, restore_signals=not is_ignored, timeout=WAIT)
         os.close(writing)
         taken = os.lseek(f.fileno(), 0, os.SEEK_CUR)
-    ended = (0, b'lines: standard output could not be written\n') if is_ignored else (-signal.SIGPIPE, b'')
+    ended = (0, UNWRITTEN) if is_ignored else (-signal.SIGPIPE, b'')
     return (done.returncode, done.stderr) == ended and taken <= lines.READ
 
 
@@ -82,7 +98,7 @@ def ends_unread(unread, answered=b''):
     """An input that cannot be read any further is the end, with nothing printed for it but a word of it on standard error."""
     done = subprocess.run(COMMAND, stdin=unread, stdout=subprocess.PIPE, stderr=subprocess.PIPE, timeout=WAIT)
     os.close(unread)
-    return (done.returncode, done.stdout, done.stderr) == (0, answered, b'lines: standard input could not be read\n')
+    return (done.returncode, done.stdout, done.stderr) == (0, answered, UNREAD)
 
 
 def ends_at_later_read():
@@ -109,6 +125,87 @@ def has_no_heap():
     return {'read', 'write'} <= imported <= STARTING | {'read', 'write', 'memcpy', 'memmove', 'memset'} and 'syscall' not in listing
 
 
+def through(given, *words, script='./lines', stdout=subprocess.PIPE, **more):
+    """What becomes of some bytes, or of a file, through ./lines: its exit status, what it prints, and what it says."""
+    source = {'input': given} if isinstance(given, bytes) else {'stdin': given}
+    done = subprocess.run([script, *words], stdout=stdout, stderr=subprocess.PIPE, timeout=WAIT, **source, **more)
+    return done.returncode, done.stdout or b'', done.stderr
+
+
+def alone(given, *words, others=None):
+    """The same, where the path has nothing but the tools that ./lines calls; with others, which are scripts by their places, of a
+    copy of it in a folder that has nothing but these."""
+    with tempfile.TemporaryDirectory() as room:
+        for folder in ('bin', 'tests', 'target/bin'):
+            os.makedirs(os.path.join(room, folder))
+        for tool in TOOLS:
+            os.symlink(shutil.which(tool), os.path.join(room, 'bin', tool))
+        for place, body in (others or {}).items():
+            with open(os.path.join(room, place), 'w', encoding='ascii') as f:
+                f.write(f'#!/bin/sh\n{body}\n')
+            os.chmod(f.name, 0o755)
+        script = './lines' if others is None else shutil.copy('lines', room)
+        return through(given, *words, script=script, env={'PATH': os.path.join(room, 'bin')})
+
+
+def helps():
+    """Where there is no toolchain and no program."""
+    long, short = alone(b'', '--help', others={}), alone(b'', '-h', others={})
+    told = (GOOD, OUTPUT.split(b'\n')[0], b'Exit status:', b'target/bin/lines', b'100,000,000', b'docs/LINES.md')
+    return long == short == (0, long[1], b'') and all(words in long[1] for words in told)
+
+
+def refuses(*words):
+    return alone(INPUT, *words, others={}) == (2, b'', REFUSED_WORDS)
+
+
+def ends_unwritten(path, said):
+    """An output that cannot be written."""
+    with open(path, 'wb') as out:
+        return through(INPUT, stdout=out) == (2, b'', said)
+
+
+def ends_at_closed_pipe(is_ignored):
+    """Where no one reads what ./lines prints, it ends, and says no more than the program does."""
+    reading, writing = os.pipe()
+    os.close(reading)
+    ended = through(INPUT * 10_000, stdout=writing, restore_signals=not is_ignored)
+    os.close(writing)
+    return ended == (2, b'', UNWRITTEN if is_ignored else b'')
+
+
+def ends_closed(which):
+    """A descriptor that is not open at all."""
+    return through(INPUT, '-c', f'exec ./lines {which}', script='sh') == (2, b'', CLOSED)
+
+
+def answers_at_once():
+    """An answer comes while the input is still open."""
+    with subprocess.Popen(['./lines'], stdin=subprocess.PIPE, stdout=subprocess.PIPE, bufsize=0) as child:
+        child.stdin.write(GOOD + b'\n')
+        came = select.select([child.stdout], [], [], WAIT)[0] and child.stdout.read(100)
+        child.stdin.close()
+        return child.wait(timeout=WAIT) == 0 and came == lines.printed(GOOD)
+
+
+def is_right_without_rt():
+    """On x86-64 the program that was built is run as it is; on another processor it needs the toolchain's emulator."""
+    return alone(INPUT) == ((2, b'', NO_EMULATOR) if program.emulator() else (1, OUTPUT, b''))
+
+
+def ends_by_signal():
+    """A program that is ended by a signal, of which the shell may say a word of its own."""
+    status, out, said = alone(INPUT, others={'target/bin/lines': '', 'tests/run': 'kill -KILL $$'})
+    return (status, out) == (2, b'') and said.endswith(b'lines: the program ended with status 137\n')
+
+
+def proves_first(rt, ended):
+    """A first run, with a script for rt, and one for tests/run that prints an output."""
+    return alone(OUTPUT, others={'bin/rt': rt, 'tests/run': 'cat'}) == ended
+
+
+TOOLS = ('cat', 'dd', 'dirname', 'grep', 'readlink', 'sh', 'tee', 'uname')    # that ./lines and tests/run call
+PROVES = 'echo "rt: a proved (1 s)"; echo "rt: lines proved (unchanged since it was last proved)"; echo "rt: ok, 2 crates proved"'
 # What the C compiler's own files of a program's start and end name.
 STARTING = {'__libc_start_main', '__cxa_finalize', '__gmon_start__', '_ITM_deregisterTMCloneTable', '_ITM_registerTMCloneTable'}
 REST = INPUT[len(GOOD):]
@@ -116,7 +213,6 @@ EVERY = lines.given()
 DISTINCT = [line for line in dict.fromkeys(EVERY.split(b'\n')) if len(line) < 100]
 CHECKS = {
     'the example of document 01': lambda: printed(INPUT) == lines.printed(INPUT) == OUTPUT,
-    'the example through ./lines': lambda: printed(INPUT, ['./lines']) == OUTPUT,
     'lines of every kind': lambda: is_right(EVERY),
     'CR LF': lambda: is_right(INPUT.replace(b'\n', b'\r\n')),
     'no last line feed': lambda: printed(INPUT[:-1]) == OUTPUT,
@@ -133,6 +229,7 @@ CHECKS = {
     'past the limit, before a line feed': lambda: is_right_at_limit(b'\n' + INPUT + GOOD, REST),
     'past the limit, in a line': lambda: is_right_at_limit(b'\n' + INPUT + GOOD[:20], GOOD[20:] + REST),
     'past the limit, in a longer line': lambda: is_right_at_limit(b'\n' + INPUT + GOOD, b'0' + REST),
+    'a byte before the limit': lambda: is_right_at_limit(b'\n' + INPUT, b'', (0, b''), end=LIMIT - 1, taken=LIMIT - 1),
     'a line to the limit': lambda: is_right_at_limit(b'', b''),
     'a line past the limit': lambda: is_right_at_limit(b'', INPUT),
     'a closed output': lambda: ends_at_closed_output(False),
@@ -142,6 +239,23 @@ CHECKS = {
     'an input that fails at a later read': ends_at_later_read,
     f'{STACK} KiB of stack': is_right_on_stack,
     'no heap': has_no_heap,
+    './lines: help': helps,
+    './lines: other arguments': lambda: refuses('-x') and refuses('--help', '-x') and refuses(''),
+    './lines: all answered': lambda: through(GOOD) == (0, lines.printed(GOOD), b''),
+    './lines: a line refused': lambda: through(INPUT) == (1, OUTPUT, b''),
+    './lines: an answer at once': answers_at_once,
+    './lines: the limit': lambda: is_right_at_limit(b'\n' + INPUT, b'', (1, b''), './lines'),
+    './lines: past the limit': lambda: is_right_at_limit(b'\n' + INPUT, INPUT, (2, CUT), './lines', taken=LIMIT + 1),
+    './lines: a folder as input': lambda: through(os.open('/', os.O_RDONLY)) == (2, b'', UNREAD),
+    './lines: a full output': lambda: ends_unwritten('/dev/full', FULL),
+    './lines: a closed output': lambda: ends_at_closed_pipe(False),
+    './lines: a closed output, SIGPIPE ignored': lambda: ends_at_closed_pipe(True),
+    './lines: no input or no output at all': lambda: ends_closed('<&-') and ends_closed('>&-'),
+    './lines: ended by a signal': ends_by_signal,
+    './lines: no toolchain': is_right_without_rt,
+    './lines: no toolchain and no program': lambda: alone(INPUT, others={}) == (2, b'', UNBUILT),
+    './lines: a first run': lambda: proves_first(PROVES, (1, OUTPUT, FIRST + b'rt: a proved (1 s)\n')),
+    './lines: a proof that fails': lambda: proves_first('echo no; exit 1', (2, b'', FIRST + b'no\n' + UNPROVED)),
 }
 
 if __name__ == '__main__':

@@ -1,6 +1,7 @@
 // The line program: answers each line of standard input on standard output. Where reading fails, or writing does and no signal has
-// ended it, it says so on standard error and stops. No contract says which bytes are read and written: those here say what becomes
-// of the bytes that stand in a buffer after a read, and how many bytes are handed over to be written for them.
+// ended it, it says so on standard error and stops; where the limit ended the input, it says so there too. No contract says which
+// bytes are read and written: those here say what becomes of the bytes that stand in a buffer after a read, and how many bytes are
+// handed over to be written for them.
 use libc::STDERR_FILENO;
 use libc::STDIN_FILENO;
 use libc::STDOUT_FILENO;
@@ -33,7 +34,19 @@ fn main() {
     let mut input = [0; 16_384];
     // room for the answers of all that is read at a time: 36 bytes for the first byte, and 10 for each one more
     let mut output = [0; 163_866];
-    run(&mut input, &mut output);
+    let last = run(&mut input, &mut output);
+    tell(last);
+}
+
+// Says where nothing more may be taken. Whether bytes follow is not known, since to know it one of them would have to be read.
+fn tell(last: Turn) {
+    let reading = last.reading;
+    if !last.is_failed && reading.left() == 0 {
+        io::write_all(
+            STDERR_FILENO,
+            b"lines: 100,000,000 bytes were read, which is the most; any bytes that follow are not answered\n",
+        );
+    }
 }
 
 // Reads and answers until no byte comes or none may be taken any more. The answer counts the bytes of the last read, and those that
