@@ -87,7 +87,8 @@ def datums():
 def refusals():
     """The tables of refusals in README.md and docs/RULES.md, and the header's words and names."""
     text = content('include/buckettin.h')
-    words, names = header.words(text)[0][1:], list(header.enumerated(text, 'buckettin_refusals').values())[1:]
+    names = list(header.enumerated(text, 'buckettin_refusals').values())[1:]
+    words = header.words(text)[0][1:len(names) + 1]
     front = [row[1] for row in rows(content('README.md').replace('| | refused because', '| number | refused because'), 'number')]
     rules = rows(content('docs/RULES.md'), 'number')
     wrong = [] if front == words else ['README.md: the words of the refusals are not the header\'s']

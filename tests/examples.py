@@ -25,6 +25,7 @@ RUNS = {
         ('1 350000.000E 0330000.000E', '', 'refused 2: a byte of a text or line is not of its kind\n', 1),
         ('1 900000.001N 0330000.000E', '', 'refused 3: a latitude, longitude, minute or second is out of range\n', 1),
         ('7 350000.000N 0330000.000E', '', 'refused 4: the code is not 1 to 6\n', 1),
+        ('1x 350000.000N 0330000.000E', '', 'refused 4: the code is not 1 to 6\n', 1),
         ('1 350000.000N', '', 'map CODE LATITUDE LONGITUDE, as: map 1 350000.000N 0330000.000E\n', 2),
     ],
     'sheet': [
@@ -34,7 +35,7 @@ RUNS = {
         ('7 230000.000N 0570000.000E',
          "unit 7, 2 points\ncode 1: refused 6: the point is outside its datum's area\ncode 6: geoid height 7.464 m\n", '', 0),
         ('8 350000.000N 0330000.000E', '', "refused 8: the sheet's serial is not zero and not the unit's\n", 1),
-        ('-7 350000.000N 0330000.000E', '', "refused 8: the sheet's serial is not zero and not the unit's\n", 1),
+        ('7x 350000.000N 0330000.000E', '', "refused 8: the sheet's serial is not zero and not the unit's\n", 1),
         ('7 350000.000N 0330000.000W', '', 'refused 2: a byte of a text or line is not of its kind\n', 1),
         ('', '', 'sheet UNIT LATITUDE LONGITUDE, as: sheet 7 350000.000N 0330000.000E\n', 2),
     ],

@@ -53,11 +53,15 @@ int main(void)
 {
     static const uint8_t sheet[] = {0,0,0,7, 0, 0,0};
     static const uint32_t none[] = {BUCKETTIN_SHEET + 1, 255, 256, INT32_MAX, UINT32_MAX};
-    uint8_t out[36], result[6];
+    uint8_t out[BUCKETTIN_LINE_ROOM], result[6];
     memset(out, '#', sizeof out);
     memset(result, '#', sizeof result);
 #include "examples.h"
     seen(strcmp(buckettin_why(BUCKETTIN_AREA), "the point is outside its datum's area") == 0, "the words of 6");
+    seen(buckettin_shifted(INT32_MAX, INT32_MIN) == INT64_C(212600881052), "100 times the largest ms");
+    for (int64_t code = -1; code < 9; code++) {
+        seen(buckettin_has_geoid(code) == (buckettin_shift(code, 0, 0).refusal == BUCKETTIN_FAMILY), "which codes have a geoid height");
+    }
     for (size_t k = 0; k < sizeof none / sizeof none[0]; k++) {
         seen(strcmp(buckettin_why(none[k]), "a number that is no refusal") == 0, "the words of a number that is none");
     }

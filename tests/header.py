@@ -71,8 +71,8 @@ def declared(header):
 
 def enumerated(header, name):
     """The names of an enum, without their first word, by their numbers."""
-    body = re.search(rf'enum {name} \{{\n(.*?)\n\}};', header, re.S)[1]
-    rows = [re.fullmatch(r' {4}BUCKETTIN_(\w+) = (\d+),?', row) for row in body.split('\n')]
+    body = re.search(rf'enum {name} \{{\n(.*?)\n\}};', bare(header), re.S)[1]
+    rows = [re.fullmatch(r'BUCKETTIN_(\w+) = (\d+),?', row.strip()) for row in body.split('\n') if row.strip()]
     return {int(row[2]): row[1] for row in rows}
 
 
@@ -114,9 +114,14 @@ def symbols():
     return ({name for kind, name in re.findall(r' ([TU]) (\S+)$', listing, re.M) if kind == given} for given in 'TU')
 
 
+def inline(header):
+    """The functions that are in the header itself."""
+    return set(re.findall(r'^static inline .*\b(buckettin_\w+)\(', header, re.M))
+
+
 def not_understood(header, names):
     """What the expressions above would pass over: another form of declaration, typedef or row."""
-    found = set(re.findall(r'\bbuckettin_\w+(?=\()', bare(header))) - {'buckettin_why'}
+    found = set(re.findall(r'\bbuckettin_\w+(?=\()', bare(header))) - inline(header)
     wrong = [] if found == names else [f'declarations not understood: {sorted(found ^ names)}']
     wrong += [] if bare(header).count('typedef') == len(typedefs(header)) else ['a typedef is not understood']
     rows = len(re.findall(r'^ +\d+ +\w.*°', header, re.M))
@@ -157,11 +162,14 @@ def unwarned(header):
 
 
 def words(header):
-    """The words of each refusal, as buckettin_why has them, and as the source has them beside its cases."""
+    """The words of each refusal, as buckettin_why and the enum have them, and as the source has them beside its cases."""
     body = re.search(r'words\[\] = \{\n(.*?)\n    \};', header, re.S)[1]
     found = re.findall(r'"(.*)"', re.sub(r'"\n +"', '', body))
+    beside = re.search(r'enum buckettin_refusals \{\n(.*?)\n\};', header, re.S)[1]
+    beside = [' '.join(comment.split()) for comment in re.findall(r'/\* (.*?) \*/', beside, re.S)]
     cases = re.search(r'pub enum Refusal \{\n(.*?)\n\}', content('crates/kinds/src/lib.rt'), re.S)[1]
-    return found, ['answered'] + re.findall(r'^ +// (.*)\n', cases, re.M)
+    cases = re.findall(r'^ +// (.*)\n', cases, re.M)
+    return found + beside, ['answered', *cases, *cases]
 
 
 EXAMPLE = re.compile(
