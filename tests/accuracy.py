@@ -46,12 +46,14 @@ SHIFTS = {
 TOWNS = {
     1: [('Nicosia', ms(35, 10), ms(33, 22)), ('Limassol', ms(34, 41), ms(33, 2))],
     2: [('Lagos', ms(6, 27), ms(3, 24)), ('Port Harcourt', ms(4, 47), ms(7, 1)), ('Abuja', ms(9, 4), ms(7, 29)),
-        ('Kano', ms(12), ms(8, 31)), ('Maiduguri', ms(11, 50), ms(13, 9))],
-    3: [('Anchorage', ms(61, 13), ms(210, 6)), ('Fairbanks', ms(64, 50), ms(212, 17))],
+        ('Kano', ms(12), ms(8, 31)), ('Maiduguri', ms(11, 50), ms(13, 9)), ('Calabar', ms(4, 57), ms(8, 19)),
+        ('Ilorin', ms(8, 30), ms(4, 33))],
+    3: [('Anchorage', ms(61, 13), ms(210, 6)), ('Fairbanks', ms(64, 50), ms(212, 17)), ('St George', ms(56, 36), ms(190, 27))],
     4: [('Doha', ms(25, 17), ms(51, 32))],
 }
 CORNERS = {2: [('south-west corner', ms(4), ms(2, 30)), ('south-east corner', ms(4), ms(14, 45))]}
 AXIS, FLATTENING = 6_378_137, 1 / 298.257223563            # WGS 84
+DEMANDED = {'0.00002"', '1 mm'}   # by demand 3
 ALIKE = 2e-9                   # degrees: less than a millimetre, between two ways of calling PROJ
 
 
@@ -182,7 +184,7 @@ def at(place):
 
 # The tables, each as its head and its rows of cells.
 CLAIMS = ['code', 'datum', 'RMS in m', 'points', 'proved bound', 'on the ground']
-APART = ['code', 'three parameters', 'median', 'greatest', 'at', 'height: median', 'greatest', 'at']
+APART = ['code', 'three parameters', 'EPSG says', 'median', 'greatest', 'at', 'height: median', 'greatest', 'at']
 SHARES = ['code', *LABELS]
 SPOTS = ['code', 'place', 'at', 'equations', 'three parameters', 'apart', 'height']
 STATED = ['code', 'EPSG', 'name', 'version', 'dX, dY, dZ in m', 'stations', 'accuracy', 'meant for']
@@ -219,18 +221,27 @@ def farthest(found):
 def apart(code, found):
     far, high = farthest(found)
     middle, height = median(row.apart for row in found), median(row.height for row in found)
-    return [str(code), f'EPSG:{SHIFTS[code][0]}', metres(middle), metres(far.apart), at(far.place),
+    return [str(code), f'EPSG:{SHIFTS[code][0]}', accuracy(code), metres(middle), metres(far.apart), at(far.place),
             metres(height), metres(high.height), at(high.place)]
 
 
-def spots(code):
+def marked(code):
     """The printed test point, towns and corners."""
-    places = [('printed test point', *pages.PRINTED[code - 1][1:3])] + TOWNS[code] + CORNERS.get(code, [])
-    rows = []
+    return [('printed test point', *pages.PRINTED[code - 1][1:3])] + TOWNS[code] + CORNERS.get(code, [])
+
+
+def spots(code):
+    """Both shifts of each."""
+    places, rows = marked(code), []
     for (name, *_), row in zip(places, compared(code, [place for _, *place in places])):
         shifts = [f'{s.latitude:+.3f}", {s.longitude:+.3f}"' for s in (row.equations, row.parameters)]
         rows.append([str(code), name, at(row.place), *shifts, metres(row.apart), metres(row.height)])
     return rows
+
+
+def accuracy(code):
+    """How accurate EPSG holds the three parameters to be, by PROJ's database."""
+    return f'{float(operation(code)[0]["accuracy"]):g} m'
 
 
 def stated(code):
@@ -241,12 +252,11 @@ def stated(code):
     version = re.search(r'VERSION\["([^"]+)"\]', text)[1]
     stations = re.search(r'Derived at (\d+) stations', told['remarks'])[1]
     shift = ', '.join(f'{n:+g}' for n in parameters(told))
-    accuracy = f'{float(told["accuracy"]):g} m'
-    return [str(code), number, told['name'], version, shift, stations, accuracy, told['area'].rstrip('.')]
+    return [str(code), number, told['name'], version, shift, stations, accuracy(code), told['area'].rstrip('.')]
 
 
 def tables(found):
-    none = [[str(code), 'none', '-', '-', '-', '-', '-', '-'] for code in AREAS if code not in SHIFTS]
+    none = [[str(code), 'none', *'-' * (len(APART) - 2)] for code in AREAS if code not in SHIFTS]
     return [
         (CLAIMS, claims()),
         (APART, [apart(code, found[code]) for code in SHIFTS] + none),
@@ -272,8 +282,8 @@ def drawn(code, found):
     marks = [(*town, 'town') for town in TOWNS[code]] + [('test point', *pages.PRINTED[code - 1][1:3], 'test')]
     marks.append((metres(far.apart), *far.place, 'far'))
     told = apart(code, found)
-    notes = [('median', f'median {told[2]}'), ('greatest', f'greatest {told[3]}')]
-    words = f'Code {code}: {NAMES[code]}', f'Equations and three parameters ({told[1]}): distance along the ground'
+    notes = [('median', f'median {told[3]}'), ('greatest', f'greatest {told[4]}')]
+    words = f'Code {code}: {NAMES[code]}', f'How far the equations and three parameters ({told[1]}) lie apart: two answers, not an error'
     return picture.drawn(AREAS[code], SHIFTS[code][2], words, rows, LABELS, shares(found), marks, notes)
 
 
@@ -311,7 +321,7 @@ def pictures_held(page):
     for code, (_, name, _) in SHIFTS.items():
         if f']({os.path.relpath(name, os.path.dirname(PAGE))})' not in page:
             yield f'{PAGE} does not show {name}'
-        _, _, middle, far, *_ = distances[str(code)]
+        _, _, _, middle, far, *_ = distances[str(code)]
         try:
             if told_by(name) != [steps[str(code)][1:], [f'median {middle}'], [f'greatest {far}']]:
                 yield f'{name} does not say what the tables of {PAGE} say'
@@ -326,15 +336,27 @@ def text_held(page):
     """Figures of the text, in metres, seconds or percent, that no table has."""
     figure = r'[+-]?\d[\d,.]*(?: mm?\b| %|")'
     rows = ' '.join(row for row in page.splitlines() if row.startswith('|'))
-    known = set(re.findall(figure, rows)) | {f'{rms} m' for row in claims() for rms in row[2].split(', ')}
+    known = set(re.findall(figure, rows)) | {f'{rms} m' for row in claims() for rms in row[2].split(', ')} | DEMANDED
     text = ' '.join(row for row in page.splitlines() if not row.startswith(('|', '    ')))
     return [f'{PAGE}: no table has {found}' for found in re.findall(figure, text) if found not in known]
 
 
+def spots_held(page):
+    """Places whose position, or whose shift by the equations, is not as the page has it."""
+    rows = rows_of(page, SPOTS)
+    for code in SHIFTS:
+        for (name, *place), ours in zip(marked(code), by_equations(code, [place for _, *place in marked(code)]), strict=True):
+            must = [str(code), name, at(place), f'{ours.latitude:+.3f}", {ours.longitude:+.3f}"']
+            if must not in [row[:4] for row in rows]:
+                yield f'{PAGE}: no row has {must}'
+
+
 def page_held():
     page = read(PAGE)
-    wrong = [*pictures_held(page), *text_held(page)]
-    if f'{SIDE} by {SIDE} points' not in page:
+    wrong = [*pictures_held(page), *text_held(page), *spots_held(page)]
+    if [row[1] for row in rows_of(page, STATED)] != [str(epsg) for epsg, *_ in SHIFTS.values()]:
+        wrong.append(f'{PAGE}: other numbers of EPSG than are compared')
+    if f'{SIDE} by {SIDE} points' not in ' '.join(page.split()):
         wrong.append(f'{PAGE} does not say that the grid has {SIDE} by {SIDE} points')
     if rows_of(page, CLAIMS) != claims():
         wrong.append(f'{PAGE}: the table of claims is not what document 000 and the bounds say')
