@@ -100,7 +100,7 @@ def sentence(text, name):
 
 def placed(code, text, definition):
     """Each table stands under its own name, in the definition's page and in the code's call."""
-    shift = code <= 4
+    shift = len(document_000.equations(code)) == 3
     held = 'equations = shift dLat dLon dH;' if shift else 'equations = geoid n;'
     calls = [('latitude: super::angle', 'LATITUDE'), ('longitude: super::angle', 'LONGITUDE')] if shift else []
     calls += [('height: super::height' if shift else 'super::height', 'HEIGHT')]
@@ -145,26 +145,29 @@ def compared(code, name, printed, text, definition):
 # The page, in blocks: a kind, and what is in it. Of a table the columns, '>' before those to the right, and the rows.
 HEAD = [
     ('title', 'The code beside the printed page'),
-    ('text', """For the checker with the ruler: each equation of document 000 as it is printed, its terms in the order of the
-        page, and beside each term the numbers that the code holds."""),
+    ('text', """For the checker with the ruler. The paper is the change pages of 1 March 1989 to DMA TR 8350.2-B, which we call
+        document 000. Below is each of its equations as printed, and beside each term the numbers that the code holds."""),
+    ('text', 'Checked by: ............................  on: ....................  version (commit): ....................'),
     ('list', [
-        """Hold the lines of the equation to the paper: signs, figures, superscripts. They break where the page breaks,
-        by the scanned text of it, and a bar stands after the number of the line.""",
-        """Go down the table with the ruler. `line` stands at the first term of each line of the page, `no.` counts the terms
-        of the equation. The coefficient in the code is the printed figure without its point, with zeros after it up to five
-        decimals for Δφ and Δλ, and three for ΔH and N: 0.1718 is 17180. U and V are the powers in the code: 0 where the
-        letter is not there, 1 where it has no superscript.""",
-        'Hold U, V, K and the test case to the paper.']),
+        """Hold the lines of the equation to the paper: signs, figures, superscripts. Lines are broken, and spaces set, as in
+        a scanned text of the paper; the number of a line stands before a bar.""",
+        """Go down the table with the ruler. `line` is the number of the printed line, given at its first term; `no.` counts
+        the terms of the equation. The coefficient in the code is the printed figure without its point, with zeros after it
+        up to five decimals for Δφ and Δλ, and three for ΔH and N: 0.1718 is 17180. U and V are the powers in the code: 0
+        where the letter is not there, 1 where it has no superscript.""",
+        """Hold U, V, K, the comparison points, the RMS and the test case to the paper. The areas are not on it: they are of
+        the firm's own paper, document 01. Tick them only if you have that.""",
+        """If something differs, write it beside the box and leave the box empty. The figure stands in three places, which must
+        all change: `docs/document-000.txt`, and the file of the datum in `crates/tables/specs` and in `crates/tables/src`."""]),
     ('text', """The numbers of the code are read from `crates/tables/src`, where each table stands by rising power of V, then
-        of U. The gate refuses a page that is not what the sources give, and a number that differs between
-        `docs/document-000.txt`, the definition in `crates/tables/specs` and the code. What it cannot see is the paper: that
-        is the checker's. (`tests/transcription.py` holds `docs/document-000.txt` to a scanned text of it, where that is at
-        hand.)"""),
-    ('text', """The areas are document 01's, and not on the page. The worked answers are by document 01's rule, in Python,
-        and the gate holds the compiled program to the same numbers. An angle may be 0.00050" from the printed one, and a
-        height 0.005 m."""),
-    ('text', """To print: `python3 tests/check_page.py --pdf target/check.pdf` (Debian's `weasyprint`), on US Letter paper,
-        with each datum on pages of its own. To write this page again: `python3 tests/check_page.py --write`."""),
+        of U. The gate fails where this list differs from the sources, and where a number differs between
+        `docs/document-000.txt`, the definition in `crates/tables/specs` and the code. It cannot see the paper: only you can.
+        (`tests/transcription.py` holds `docs/document-000.txt` to a scanned text of it, where that is at hand.)"""),
+    ('text', """The worked answers are by document 01's rule, in Python, and the gate holds the compiled program to the same
+        numbers. The paper prints three decimals of a second and two of a metre, so a worked angle may be 0.00050" from the
+        printed one, and a height 0.005 m."""),
+    ('text', """To print: `python3 tests/check_page.py --pdf target/check.pdf` (Debian's `weasyprint` and `fonts-dejavu-core`), on
+        US Letter paper, with each datum on pages of its own. To write this page again: `python3 tests/check_page.py --write`."""),
 ]
 RAISED = '⁰¹²³⁴⁵⁶⁷⁸⁹'
 
@@ -184,15 +187,20 @@ def degrees(angle):
 
 
 def frame_table(code, held):
-    """U, V, K and the area, beside what the code holds."""
+    """U, V, K, the claims and the area, beside what the code holds."""
     ends, in_code = ([degrees(end) for end in found] for found in (area(code), [held[name] for name in ENDS]))
     printed = document_000.printed_frame(code)
-    return 'table', ['', 'in the papers', 'in the code', 'seen'], [
+    points = ', '.join(map(str, document_000.compared(code)))
+    of = ', '.join(name for name, _ in document_000.differences(code))
+    rms = ', '.join(f'± {size} m' for _, size in document_000.differences(code))
+    return 'table', ['', 'on paper', 'in the code', 'seen'], [
         ['U', printed[0], f'centre\'s latitude {degrees(held["latitude"])}', '☐'],
         ['V', printed[1], f'centre\'s longitude {degrees(held["longitude"])}', '☐'],
         ['K', printed[2], f'{held["k"]} hundred-millionths', '☐'],
-        ['area, latitude', f'{ends[0]} to {ends[1]}', f'{in_code[0]} to {in_code[1]}', '☐'],
-        ['area, longitude', f'{ends[2]} to {ends[3]}', f'{in_code[2]} to {in_code[3]}', '☐'],
+        [f'comparison points{f" of {of}" if "," in points else ""}', points, 'not there', '☐'],
+        [f'RMS of {of}', rms, 'not there', '☐'],
+        ['area, latitude', f'{ends[0]} to {ends[1]} (document 01)', f'{in_code[0]} to {in_code[1]}', '☐'],
+        ['area, longitude', f'{ends[2]} to {ends[3]} (document 01)', f'{in_code[2]} to {in_code[3]}', '☐'],
     ]
 
 
@@ -232,7 +240,7 @@ def test_blocks(code):
             wrong.append(f'code {code}, {name}: the test case is worked as {value}, and printed as {answer}')
     asked = f'{code} {pages.spelled(pages.LATITUDE, latitude)} {pages.spelled(pages.LONGITUDE, longitude)}'
     return [
-        ('last', 'Test case'), ('text', f'{document_000.printed_test(code)}. A line for the line program: `{asked}`'),
+        ('last', 'Test case'), ('text', f'☐ {document_000.printed_test(code)}. A line for the line program: `{asked}`'),
         ('table', ['', '>printed', '>worked, in units of the code', '>worked', '>difference', 'seen'], rows),
     ]
 
@@ -245,13 +253,10 @@ def datum_blocks(code):
     placed(code, text, definition)
     footnote = [f'{place}.'] if place else []
     footnote += [f'{ellipsoid} ellipsoid.'] if ellipsoid else []
-    points = ', '.join(map(str, document_000.compared(code)))
-    rms = ', '.join(f'{of} ± {size} m' for of, size in document_000.differences(code))
     words = footnote + [f'Gives the {document_000.gives(code)}.', f'In the code: `crates/tables/src/{FILES[code]}.rt`.']
     blocks = [
         ('datum', f'Code {code}: {name}, Table {document_000.TABLES[code]}'), ('text', ' '.join(words)),
         frame_table(code, held),
-        ('text', f'On the page and not in the code: {points} comparison points; RMS {rms}.'),
     ]
     total = 0
     for head, lines in document_000.lines(code):
@@ -267,7 +272,7 @@ def summary():
     for code, table in document_000.TABLES.items():
         counts = [f'{bare(head)} {sum(len(terms) for _, terms in lines)}' for head, lines in document_000.lines(code)]
         rows.append([code, document_000.datum(code)[0], table, ', '.join(counts)])
-    return 'table', ['>code', 'datum', 'table', 'terms'], rows
+    return 'table', ['>code', 'datum', 'table', 'terms'], [*rows, ['', 'in all', '', IN_ALL]]
 
 
 def page_blocks():
@@ -280,10 +285,7 @@ def page_blocks():
     if total != IN_ALL:
         wrong.append(f'{total} terms, and document 01 has {IN_ALL}')
     table, name, why = document_000.not_built()
-    return blocks + [
-        ('section', f'Not built: {name}, Table {table}'), ('text', f'{why[0].upper()}{why[1:]}.'),
-        ('text', f'In all {total} terms.'),
-    ]
+    return blocks + [('section', f'Not built: {name}, Table {table}'), ('text', f'{why[0].upper()}{why[1:]}.')]
 
 
 # The page as text and on paper.

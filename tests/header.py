@@ -14,12 +14,15 @@ import sys
 import tempfile
 
 import document_000
+import lines
 import pages
 import program
+import sheets
 
 HEADER = 'include/buckettin.h'
 SOURCE = 'crates/buckettin/src/lib.rt'
 WIDTH = 125
+POINTS = 500                   # of a sheet, at most
 WIDTHS = {'i64': 'int64_t', 'i32': 'int32_t', 'u32': 'uint32_t', 'f64': 'double'}
 BYTES = {'&[u8]': ('const uint8_t *', 'length'), '&mut[u8]': ('uint8_t *', 'room')}
 
@@ -89,9 +92,9 @@ def refusals():
 
 
 def fits(header):
-    """What the table of the header says of the fit of each datum's equations, in metres."""
-    rows = re.findall(r"^ +(\d) +\w.*°\d\d' +(\d[\d. ]*)$", header, re.M)
-    return {int(code): figures.split() for code, figures in rows}
+    """What the table of the header says of each datum: its name, what it has, and the fit of its equations, in metres."""
+    rows = re.findall(r"^ +(\d) +(\w.*?) {2,}(shift|geoid height) .*°\d\d' +(\d[\d. ]*)$", header, re.M)
+    return {int(code): (name, gives, figures.split()) for code, name, gives, figures in rows}
 
 
 def typedefs(header):
@@ -180,29 +183,52 @@ EXAMPLE = re.compile(
 def examples(header):
     """The calls in the header's comments, by the function, as lines of tests/header.c."""
     answers = {re.search(r' (buckettin_(\w+))\(', line)[2]: line.split()[0] for line in declared(header)}
-    words = ' '.join(' '.join(re.findall(r'/\*(.*?)\*/', header, re.S)).split())
-    lines, called = [], set()
-    for call, name, answer, buffer, start in EXAMPLE.findall(words):
+    told = ' '.join(' '.join(re.findall(r'/\*(.*?)\*/', header, re.S)).split())
+    found, called = [], set()
+    for call, name, answer, buffer, start in EXAMPLE.findall(told):
         called.add(f'buckettin_{name}')
-        lines.append(f'CALL({answers[name]}, {call}, {answer});' if answer[0] == '{' else f'NUMBER({call}, {answer});')
+        found.append(f'CALL({answers[name]}, {call}, {answer});' if answer[0] == '{' else f'NUMBER({call}, {answer});')
         if buffer:
-            lines.append(f'{"TEXT" if start[0] == chr(34) else "BYTES"}({buffer}, {start});')
-    if words.count(' starts with ') != sum(line.startswith(('TEXT', 'BYTES')) for line in lines):
+            found.append(f'{"TEXT" if start[0] == chr(34) else "BYTES"}({buffer}, {start});')
+    if len(EXAMPLE.findall(told)) != len(re.findall(r'\bbuckettin_(?!shifted)\w+\(', told)):
+        raise SystemExit('an example is not understood')
+    if len(re.findall(r'\band (?:out|result)\b', told)) != sum(line.startswith(('TEXT', 'BYTES')) for line in found):
         raise SystemExit('what a buffer starts with is not understood')
-    return lines, called
+    return found, called
 
 
-def run(lines):
+def run(found):
     with tempfile.TemporaryDirectory() as room:
         with open(f'{room}/examples.h', 'w', encoding='ascii') as f:
-            f.write('\n'.join(lines) + '\n')
+            f.write('\n'.join(found) + '\n')
         command = program.compiled(['-std=c11', '-Wpedantic', 'tests/header.c', program.archive()], room, ['include'])
         return subprocess.run(command).returncode
 
 
-def fit(code):
-    """What document 000 claims of them."""
+def gives(code):
+    """What a datum has."""
+    return document_000.gives(code).split(' to ')[0]
+
+
+def claimed(code):
+    """The fit that document 000 claims of its equations, in metres."""
     return [metres for _, metres in document_000.differences(code)]
+
+
+def figures():
+    """Phrases of the header that have a figure, as the papers and the tests give it."""
+    (least_latitude, largest_latitude), (least, largest) = pages.KINDS[:2]
+    north, east = (len(pages.spelled(form, 0)) for form in (pages.LATITUDE, pages.LONGITUDE))
+    result = len(sheets.result(1, sheets.sheet(1, [1], [(1, 0, 0)] * POINTS)))
+    ellipsoids = {code: document_000.datum(code)[2] for code in pages.AREAS}
+    return [
+        f'a degree is {pages.DEGREE:,}.', f'BUCKETTIN_DEGREE_MS = {pages.DEGREE},',
+        f'latitude goes from {least_latitude:,} to {largest_latitude:,}, longitude from {least} to {largest:,}.',
+        f'the ellipsoid {ellipsoids[5]} (code 5) or {ellipsoids[6]} (code 6)',
+        f'BUCKETTIN_LATITUDE_BYTES = {north},', f'BUCKETTIN_LONGITUDE_BYTES = {east},', f'where room is below {north}.',
+        f'where room is below {east}.', f'BUCKETTIN_LINE_BYTES = {len(lines.GOOD)},', f'a line of {len(lines.GOOD)} bytes',
+        f'BUCKETTIN_RESULT_ROOM = {result}', f'at most {result:,}', f'count of points, at most {POINTS}',
+    ]
 
 
 def version(header):
@@ -221,8 +247,10 @@ def compared(header, source):
             ('areas', areas(header), pages.AREAS), ('codes', enumerated(header, 'buckettin_codes'), codes()),
             ('refusals', enumerated(header, 'buckettin_refusals'), refusals()), ('orders', orders(header), ORDERS),
             ('words', *words(header)), ('versions', *version(header)),
-            ('fits', fits(header), {code: fit(code) for code in pages.AREAS})):
+            ('datums', fits(header), {code: (pages.NAMES[code], gives(code), claimed(code)) for code in pages.AREAS})):
         wrong += [] if told == must else [f'{what} differ: {told} and {must}']
+    told = ' '.join(header.split())
+    wrong += [f'it does not say: {phrase}' for phrase in figures() if phrase not in told]
     wrong += [f'line {k} has {len(line)} characters' for k, line in enumerate(header.split('\n'), 1) if len(line) > WIDTH]
     return wrong + [f'the answer of {name} may be dropped' for name in unwarned(header)]
 
@@ -235,10 +263,11 @@ def main():
     wrong += [] if given == names else [f'the archive gives {sorted(given ^ names)} or the header does, but not both']
     wrong += [] if taken == {'memcpy'} else [f'the archive takes {sorted(taken)}']
     wrong += not_understood(header, names)
-    lines, called = examples(header)
+    found, called = examples(header)
     wrong += [f'{name} has no example' for name in sorted(names - called)]
+    wrong += ['an example is not so'] if run(found) else []
     print('\n'.join(wrong) or f'the header: {len(names)} functions and {len(structs(source))} structs as in the source')
-    sys.exit(1 if run(lines) or wrong else 0)
+    sys.exit(1 if wrong else 0)
 
 
 if __name__ == '__main__':

@@ -78,7 +78,10 @@ ROOMS = [0, 10, 11, 12, 14]
 PUT = [b'', b'12345678901', b'12345678901234']     # texts that are put into buffers of these rooms
 
 
-# The datums: document 01's areas, in ms, south, north, west and east.
+# The datums: document 01's names and areas, these in ms, south, north, west and east.
+NAMES = {1: 'ED 50 Cyprus', 2: 'Minna', 3: 'NAD 27 Alaska', 4: 'Qatar National', 5: 'Kandawala', 6: 'Nahrwan'}
+
+
 def ms(degrees, minutes=0, seconds=0):
     return ((degrees * 60 + minutes) * 60 + seconds) * 1000
 
