@@ -28,6 +28,7 @@ import pages
 import picture
 import program
 from pages import AREAS, DEGREE, ms
+from program import content
 
 PAGE = 'docs/ACCURACY.md'
 SIDE = 201                     # grid points along each side of an area, both ends among them
@@ -287,11 +288,6 @@ def drawn(code, found):
     return picture.drawn(AREAS[code], SHIFTS[code][2], words, rows, LABELS, shares(found), marks, notes)
 
 
-def read(name):
-    with open(name, encoding='utf-8') as f:
-        return f.read()
-
-
 def rows_of(page, head):
     """The rows of a table of the page, as cells."""
     block = re.search(re.escape(line(head)) + r'\n\|[-|]+\|\n((?:\|.*\n)+)', page)
@@ -302,7 +298,7 @@ def rows_of(page, head):
 
 def page_with(found):
     """The page, with these tables in the place of its own."""
-    page = read(PAGE)
+    page = content(PAGE)
     for head, rows in found:
         old = markdown((head, rows_of(page, head)))
         page = page.replace(old, markdown((head, rows)))
@@ -352,7 +348,7 @@ def spots_held(page):
 
 
 def page_held():
-    page = read(PAGE)
+    page = content(PAGE)
     wrong = [*pictures_held(page), *text_held(page), *spots_held(page)]
     if [row[1] for row in rows_of(page, STATED)] != [str(epsg) for epsg, *_ in SHIFTS.values()]:
         wrong.append(f'{PAGE}: other numbers of EPSG than are compared')
@@ -372,7 +368,7 @@ def main():
         files = {PAGE: page_with(made).encode()}
         files |= {name: drawn(code, found[code]).encode() for code, (_, name, _) in SHIFTS.items()}
         wrong = program.held(files) + page_held()
-        if ' '.join(command(2)) not in read(PAGE):
+        if ' '.join(command(2)) not in content(PAGE):
             wrong.append(f'{PAGE} does not have the command {" ".join(command(2))}')
         program.ended(wrong, f'accuracy: {PAGE} and {len(SHIFTS)} pictures are what is worked out')
     print('\n'.join(map(markdown, made)), end='')

@@ -1,10 +1,10 @@
 #!/usr/bin/env python3
 """README.md and docs/ say what is so: python3 tests/documents.py
 
-Links, and files that stand in backticks, are there. The tables of datums, areas, fits and refusals, and the orders of refusals, are
-those of document 000, of tests/pages.py and of the header; the worked point of README.md is worked again. What README.md,
-docs/RULES.md and docs/PROVED.md name is where they say, and a heading of document 01 that a source cites is one of docs/RULES.md.
-Crates, tests of the gate and decisions are all listed, each once.
+Links, and files that stand in backticks, are there. The tables of datums, areas, fits and refusals, and the orders of
+refusals, are those of document 000, of tests/pages.py and of the header; the worked point of README.md is worked again. What
+README.md, docs/RULES.md and docs/PROVED.md name is where they say, and a heading of document 01 that a source cites is one of
+docs/RULES.md. Crates, tests of the gate and decisions are all listed, each once.
 """
 import glob
 import os
@@ -17,7 +17,7 @@ import header
 import ledger
 import lines
 import pages
-from ledger import content
+from program import content
 
 MOST = 130                     # lines of README.md
 DOCUMENTS = ['README.md', *sorted(glob.glob('docs/*.md'))]
@@ -111,27 +111,36 @@ def refusals():
     text = content('include/buckettin.h')
     names = header.enumerated(text, 'buckettin_refusals')
     must = [(str(n), names[n], header.words(text)[0][n]) for n in sorted(names) if n]
-    front = [tuple(row) for row in rows(content('README.md'), '| | refused because')]
-    rules = [(n, name.upper(), words) for n, name, words in rows(content('docs/RULES.md'), '| number |')]
-    wrong = [] if front == [(n, words) for n, _, words in must] else ['README.md: the refusals are not the header\'s']
-    return wrong + ([] if rules == must else ['docs/RULES.md: the refusals are not the header\'s'])
+    told = [tuple(row) for row in rows(content('README.md'), '| | refused because')]
+    named = [(n, name.upper(), words) for n, name, words in rows(content('docs/RULES.md'), '| number |')]
+    wrong = [] if told == [(n, words) for n, _, words in must] else ['README.md: the refusals are not the header\'s']
+    return wrong + ([] if named == must else ['docs/RULES.md: the refusals are not the header\'s'])
+
+
+def calls(cell):
+    """The calls of a cell such as `buckettin_read_latitude`, `_longitude`, without their first word."""
+    first, *others = re.findall(r'`(?:buckettin)?_(\w+)`', cell)
+    start = first.rpartition('_')[0]
+    return [first] + [f'{start}_{name}' if start else name for name in others]
+
+
+def orders_for_c():
+    """The calls of docs/C.md, and the order of refusals of each."""
+    told = {name: order for cell, _, order in rows(content('docs/C.md'), '| call |') for name in calls(cell)}
+    must = {re.search(r'buckettin_(\w+)\(', line)[1]: 'nothing' for line in header.declared(content('include/buckettin.h'))}
+    must.update(header.ORDERS, sheet='1, 9 and 8 in the order of its bytes, 7')
+    return [f'docs/C.md: {name} is told as refused with {told.get(name)}' for name in {*told, *must} if told.get(name) != must.get(name)]
+
+
+# the rows of docs/RULES.md, and a call that has that order; that of a sheet is told in words
+ORDERED = {'a point, of one family': 'shift', 'a point, of either family': 'refusal', 'a text that is read': 'read_latitude',
+           'a text that is written': 'write_latitude', 'a line': 'line'}
 
 
 def orders():
-    """The orders of refusals in docs/C.md and docs/RULES.md."""
-    wrong, listed = [], set()
-    for calls, _, told in rows(content('docs/C.md'), '| call |'):
-        names = re.findall(r'`(?:buckettin)?_(\w+)`', calls)
-        names = [name if name in header.ORDERS or k == 0 else f'{names[0].split("_")[0]}_{name}' for k, name in enumerate(names)]
-        listed |= set(names)
-        must = {'sheet': '1, 9 and 8 in the order of its bytes, 7'}
-        wrong += [f'docs/C.md: the order of {n}' for n in names if told != must.get(n, header.ORDERS.get(n, 'nothing'))]
-    called = {re.search(r'buckettin_(\w+)\(', line)[1] for line in header.declared(content('include/buckettin.h'))}
-    wrong += [] if {name.removeprefix('first_') for name in listed} >= called - {'second', 'third'} else ['docs/C.md: leaves out a call']
-    rules = {call: re.findall(r'\d', told.split('`')[0]) for call, told in rows(content('docs/RULES.md'), '| call |')}
-    must = {'a point, of one family': 'shift', 'a point, of either family': 'refusal', 'a text that is read': 'read_latitude',
-            'a text that is written': 'write_latitude', 'a line': 'line'}
-    return wrong + [f'docs/RULES.md: the order of {call}' for call, name in must.items() if rules[call] != header.ORDERS[name].split(', ')]
+    """The orders of refusals in docs/RULES.md."""
+    told = {call: ', '.join(re.findall(r'\d', order.split('`')[0])) for call, order in rows(content('docs/RULES.md'), '| call |')}
+    return [f'docs/RULES.md: the order of {call}' for call, name in ORDERED.items() if told[call] != header.ORDERS[name]]
 
 
 def seconds(text, letter):
@@ -159,8 +168,9 @@ def demands():
     wrong = []
     for _, cell in rows(content('README.md'), '| demand |'):
         named = re.findall(r'((?:`[\w-]+`(?:, )?)+) \(((?:`\w+`(?:, )?)+)\)', cell)
-        pairs = [(name, crate) for names, crates in named for crate in re.findall(r'`(\w+)`', crates) for name in re.findall(r'`([\w-]+)`', names)]
-        wrong += [f'README.md: no theorem `{name}` in {crate}' for name, crate in pairs if name not in proved(crate)]
+        for names, crates in named:
+            there = set.intersection(*map(proved, re.findall(r'`(\w+)`', crates)))
+            wrong += [f'README.md: no theorem `{name}` in {crates}' for name in re.findall(r'`([\w-]+)`', names) if name not in there]
         told = {word for names, crates in named for word in re.findall(r'`([\w-]+)`', names + crates)}
         wrong += [f'README.md: `{word}` has no crate beside it' for word in set(re.findall(r'`([^`]+)`', cell)) - told]
     return wrong
@@ -242,7 +252,7 @@ def short():
 
 
 def main():
-    checks = [links, datums, refusals, orders, worked_point, demands, rules, theorems, headings, lists, shown, short]
+    checks = [links, datums, refusals, orders_for_c, orders, worked_point, demands, rules, theorems, headings, lists, shown, short]
     wrong = [line for check in checks for line in check()]
     print('\n'.join(wrong) or f'documents: {len(DOCUMENTS)} pages, and what they say is so')
     sys.exit(1 if wrong else 0)

@@ -18,6 +18,7 @@ import lines
 import pages
 import program
 import sheets
+from program import content
 
 HEADER = 'include/buckettin.h'
 SOURCE = 'crates/buckettin/src/lib.rt'
@@ -25,11 +26,6 @@ WIDTH = 125
 POINTS = 500                   # of a sheet, at most
 WIDTHS = {'i64': 'int64_t', 'i32': 'int32_t', 'u32': 'uint32_t', 'f64': 'double'}
 BYTES = {'&[u8]': ('const uint8_t *', 'length'), '&mut[u8]': ('uint8_t *', 'room')}
-
-
-def content(path):
-    with open(path, encoding='utf-8') as f:
-        return f.read()
 
 
 def in_c(name):

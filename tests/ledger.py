@@ -9,6 +9,7 @@ import re
 import sys
 
 import slips
+from program import content
 
 LEDGER = 'docs/LEDGER.md'
 COLUMNS = ['promise', 'definition', 'function', 'theorem', 'slips', 'run']
@@ -17,11 +18,6 @@ PLACED = r'((?:`[^`]+`(?:: [^`,;()]*)?(?:, )?)+) \(([\w/]+)\)'
 NAME = r'^ *(?:(?:unfoldable|abbrev|pub|record|data) )*(\S+) (?:[({][^(){}]*[)}] )*:'
 CRATES = os.listdir('crates')
 SLIPS = {(slip.crate, slip.name) for found in slips.every().values() for slip in found}
-
-
-def content(path):
-    with open(path, encoding='utf-8') as f:
-        return f.read()
 
 
 def declared(pattern, expression):

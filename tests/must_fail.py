@@ -2,7 +2,7 @@
 """Each slip is refused by itself, and each public function has two of its own: reads what the prover said of each must-fail edit,
 after rt ci.
 
-    python3 tests/must_fail.py                  reads the logs under target/must-fail
+    python3 tests/must_fail.py [CRATE..]        reads the logs under target/must-fail, of all crates or of these
     python3 tests/must_fail.py --alone CRATE..  has rt try each slip in an edit by itself, and reads those logs
     python3 tests/must_fail.py --self-test      shows that it can fail
 
@@ -43,6 +43,7 @@ class Log:
     def __init__(self, path):
         said = slips.text_of(path)
         self.unfit, self.laws, self.functions = [], set(), set(SEARCH.findall(said))
+        self.is_moved = not os.path.dirname(path) in said    # a log that was made in another folder names the files there
         for m in ERROR.finditer(said):
             if UNFIT.search(m[0]):
                 self.unfit.append(m[0].split('\n')[0])
@@ -81,6 +82,8 @@ def refused(edit, found, root):
     if not os.path.exists(path):
         return [f'{edit}: no log at {path}']
     log = Log(path)
+    if log.is_moved:
+        return [f'{edit}: its log is of another folder: rt must-fail {crate} makes it anew']
     wrong = [f'{edit}: the edit does not fit the text: {line[:200]}' for line in log.unfit[:1]]
     places = [found_in(slip, root) for slip in found]
     for k, slip in enumerate(found):
@@ -107,8 +110,8 @@ def table(root='.'):
             yield crate, name, sorted(own[crate, name])
 
 
-def read(root='.'):
-    edits = slips.every(root)
+def read(root='.', crates=()):
+    edits = {edit: found for edit, found in slips.every(root).items() if not crates or found[0].crate in crates}
     wrong = [line for edit, found in edits.items() for line in refused(edit, found, root)]
     names = collections.Counter((s.crate, s.name) for found in edits.values() for s in found)
     wrong += [f'{crate}: two slips are named {name}' for (crate, name), count in names.items() if count > 1]
@@ -155,13 +158,14 @@ def self_test():
 def main():
     if '--self-test' in sys.argv:
         return self_test()
+    crates = [word for word in sys.argv[1:] if word != '--alone']
     if '--alone' in sys.argv:
         with tempfile.TemporaryDirectory() as root:
-            alone(sys.argv[sys.argv.index('--alone') + 1:], root)
+            alone(crates, root)
             wrong, edits, count = read(root)
     else:
-        wrong, edits, count = read()
-    for crate, name, own in table():
+        wrong, edits, count = read('.', crates)
+    for crate, name, own in (row for row in table() if not crates or row[0] in crates):
         print(f'{crate:10} {name:26}{", ".join(own)}')
         if len(own) < FEWEST:
             wrong.append(f'{crate}: {name} has {len(own)} slips of its own, and a public function has {FEWEST} at least')

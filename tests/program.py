@@ -10,6 +10,11 @@ PROVED = 'target/bin'
 ARCHIVE = 'target/staticlib/libbuckettin.a'
 
 
+def content(path):
+    with open(path, encoding='utf-8') as f:
+        return f.read()
+
+
 def tools():
     """The toolchain's compiled parts for this machine."""
     home = os.environ.get('RATTLE_HOME') or os.path.dirname(os.path.dirname(os.path.realpath(shutil.which('rt'))))

@@ -1,6 +1,7 @@
 #!/usr/bin/env python3
 """Each slip of a program is a wrong program: built with it alone and run with no proof, a program of its crate does not print what
-it must, or a run that checks the machine's rules stops.
+it must, or a run that checks the machine's rules stops. Of all crates, or of those that are named: python3
+tests/wrong_programs.py [CRATE..]
 
 This is what a refusal alone does not show, since the prover also refuses a right program that the proof was not written
 for. A slip of the definitions alone has no program, and is left to tests/must_fail.py.
@@ -47,8 +48,9 @@ def seen(slip):
 
 
 wrong = []
-names = sorted({'pages'}.union(*PROGRAMS.values()))
-all_slips = [slip for found in slips.every().values() for slip in found if slips.is_program(slip)]
+crates = sys.argv[1:] or os.listdir('crates')
+names = sorted({name for crate in crates for name in programs(crate)})
+all_slips = [slip for found in slips.every().values() for slip in found if slips.is_program(slip) and slip.crate in crates]
 with ThreadPoolExecutor(os.cpu_count()) as pool:
     unedited, runs = pool.map(tried, names), pool.map(seen, all_slips)
 for name, (status, said) in zip(names, unedited):
