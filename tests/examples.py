@@ -45,10 +45,10 @@ LANGUAGES = {'C99': ('gcc', ['-std=c99', '-pedantic']), 'C++': ('g++', ['-std=c+
 
 
 def promised(name):
-    """The words of the comment's command, and what the comment says that it prints."""
-    with open(f'examples/{name}.c', encoding='ascii') as f:
-        text = f.read()
-    words, printed = re.search(rf'\./{name} (.*)\n\n   prints\n\n(.*?) \*/', text, re.S).groups()
+    """The words of the comment's second command, and what the comment says that it prints; the first command builds it."""
+    build = f'cc -I include examples/{name}.c {program.ARCHIVE} -o {name}'
+    form = rf' {re.escape(build)}\n +\./{name} (.*)\n\n   prints\n\n(.*?) \*/'
+    words, printed = re.search(form, program.content(f'examples/{name}.c'), re.S).groups()
     return words, ''.join(f'{line.strip()}\n' for line in printed.split('\n'))
 
 

@@ -204,6 +204,14 @@ def proves_first(rt, ended):
     return alone(OUTPUT, others={'bin/rt': rt, 'tests/run': 'cat'}) == ended
 
 
+def is_as_in_readme():
+    """The first command of README.md, as it stands there, prints what README.md shows."""
+    text = program.content('README.md')
+    command = re.search(r'^    (\./lines [^#\n]*)', text, re.M)[1]
+    shown = re.findall(r'^    \d \S{11} \S{12} +(.*)$', text, re.M)
+    return through(b'', '-c', command, script='sh') == (1, '\n'.join(shown + ['']).encode(), b'')
+
+
 TOOLS = ('cat', 'dd', 'dirname', 'grep', 'readlink', 'sh', 'tee', 'uname')    # that ./lines and tests/run call
 PROVES = 'echo "rt: a proved (1 s)"; echo "rt: lines proved (unchanged since it was last proved)"; echo "rt: ok, 2 crates proved"'
 # What the C compiler's own files of a program's start and end name.
@@ -239,6 +247,7 @@ CHECKS = {
     'an input that fails at a later read': ends_at_later_read,
     f'{STACK} KiB of stack': is_right_on_stack,
     'no heap': has_no_heap,
+    './lines: as README.md has it': is_as_in_readme,
     './lines: help': helps,
     './lines: other arguments': lambda: refuses('-x') and refuses('--help', '-x') and refuses(''),
     './lines: all answered': lambda: through(GOOD) == (0, lines.printed(GOOD), b''),
