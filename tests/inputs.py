@@ -37,6 +37,7 @@ CUT = b'lines: only the first 100,000,000 bytes were read and answered; docs/LIN
 REFUSED_WORDS = b'lines: it takes no arguments and reads standard input; ./lines --help says more\n'
 FIRST = b'lines: the first run proves and builds the program, which takes a few minutes\n'
 CLOSED = b'lines: standard input or standard output is closed\n'
+GONE = b'lines: target/bin/lines is gone; remove the folder target, and run ./lines again\n'
 UNPROVED = b'lines: the program could not be proved and built\n'
 UNBUILT = b'lines: the program has not been built, and rt, of the Rattle toolchain, which builds it, is not on the path\n'
 NO_EMULATOR = b'lines: rt is not on the path, and on this machine its emulator is needed\nlines: the program ended with status 2\n'
@@ -213,7 +214,7 @@ def is_as_in_readme():
 
 
 TOOLS = ('cat', 'dd', 'dirname', 'grep', 'readlink', 'sh', 'tee', 'uname')    # that ./lines and tests/run call
-PROVES = 'echo "rt: a proved (1 s)"; echo "rt: lines proved (unchanged since it was last proved)"; echo "rt: ok, 2 crates proved"'
+PROVES = ': >target/bin/lines; echo "rt: a proved (1 s)"; echo "rt: lines proved (unchanged since it was last proved)"; echo "rt: ok, 2 crates proved"'
 # What the C compiler's own files of a program's start and end name.
 STARTING = {'__libc_start_main', '__cxa_finalize', '__gmon_start__', '_ITM_deregisterTMCloneTable', '_ITM_registerTMCloneTable'}
 REST = INPUT[len(GOOD):]
@@ -264,6 +265,7 @@ CHECKS = {
     './lines: no toolchain': is_right_without_rt,
     './lines: no toolchain and no program': lambda: alone(INPUT, others={}) == (2, b'', UNBUILT),
     './lines: a first run': lambda: proves_first(PROVES, (1, OUTPUT, FIRST + b'rt: a proved (1 s)\n')),
+    './lines: a program that is gone': lambda: proves_first('echo "rt: ok, 2 crates proved"', (2, b'', FIRST + GONE)),
     './lines: a proof that fails': lambda: proves_first('echo no; exit 1', (2, b'', FIRST + b'no\n' + UNPROVED)),
 }
 
