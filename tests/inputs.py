@@ -214,7 +214,8 @@ def is_as_in_readme():
 
 
 TOOLS = ('cat', 'dd', 'dirname', 'grep', 'readlink', 'sh', 'tee', 'uname')    # that ./lines and tests/run call
-PROVES = ': >target/bin/lines; echo "rt: a proved (1 s)"; echo "rt: lines proved (unchanged since it was last proved)"; echo "rt: ok, 2 crates proved"'
+PROVES = '; '.join([': >target/bin/lines', 'echo "rt: a proved (1 s)"', 'echo "rt: ok, 2 crates proved"',
+                    'echo "rt: lines proved (unchanged since it was last proved)"'])
 # What the C compiler's own files of a program's start and end name.
 STARTING = {'__libc_start_main', '__cxa_finalize', '__gmon_start__', '_ITM_deregisterTMCloneTable', '_ITM_registerTMCloneTable'}
 REST = INPUT[len(GOOD):]
