@@ -246,7 +246,7 @@ def compared(header, source):
             ('datums', fits(header), {code: (pages.NAMES[code], gives(code), claimed(code)) for code in pages.AREAS})):
         wrong += [] if told == must else [f'{what} differ: {told} and {must}']
     told = ' '.join(header.split())
-    wrong += [f'it does not say: {phrase}' for phrase in figures() if phrase not in told]
+    wrong += [f'it does not say: {phrase}' for phrase in figures() if not re.search(re.escape(phrase) + r'(?!,?\d)', told)]
     wrong += [f'line {k} has {len(line)} characters' for k, line in enumerate(header.split('\n'), 1) if len(line) > WIDTH]
     return wrong + [f'the answer of {name} may be dropped' for name in unwarned(header)]
 
