@@ -27,17 +27,13 @@ import errors
 import pages
 import picture
 import program
-from pages import AREAS, DEGREE, ms
+from pages import AREAS, DEGREE, NAMES, ms
 from program import content
 
 PAGE = 'docs/ACCURACY.md'
 SIDE = 201                     # grid points along each side of an area, both ends among them
 STEPS = [1, 5, 20, 100]        # metres
 LABELS = ['under 1 m', '1 to 5 m', '5 to 20 m', '20 to 100 m', '100 m and more']
-NAMES = {
-    1: 'ED 50 (Cyprus)', 2: 'Minna (Nigeria)', 3: 'NAD 27 (Alaska)', 4: 'Qatar National', 5: 'Kandawala (Sri Lanka)',
-    6: 'Nahrwan (Masirah Island, United Arab Emirates)',
-}
 # EPSG's code of the three-parameter shift, the picture, and how far its degree lines are apart in ms
 SHIFTS = {
     1: (1136, 'docs/accuracy/cyprus.svg', ms(0, 30)), 2: (1168, 'docs/accuracy/minna.svg', ms(2)),

@@ -89,9 +89,9 @@ def ruled(cells):
 
 def printed(cells):
     """The same of docs/LINES.md."""
-    code, name, gives, latitude, longitude = cells
+    code, name, gives = cells
     code = int(code)
-    return code, (name, gives, ends(latitude, longitude)), (pages.NAMES[code], header.gives(code), pages.AREAS[code])
+    return code, (name, gives), (pages.NAMES[code], header.gives(code))
 
 
 def datums():
