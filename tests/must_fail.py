@@ -28,7 +28,7 @@ UNFIT = re.compile(
     r'can be named from here|not in scope(?! here)|Parse|is not a module|expected an? |wrong number of|has no field'
     r'|expected type `tie\.Need-')
 FEWEST = 2                     # slips of its own that a public function has
-OF_TESTS = {'ask', 'show'}      # libraries of the test programs alone, which are not sold
+OF_TESTS = {'test_ask', 'test_show'}    # libraries of the test programs alone, which are not sold
 
 # an error is its line and the indented lines under it
 ERROR = re.compile(r'^(\S+?):(\d+):(\d+): error: (?:`([^`]+)`)?.*\n(?:  .*\n)*', re.M)

@@ -36,7 +36,7 @@ def proved(name):
     return emulator() + [os.path.join(library, 'ld-linux-x86-64.so.2'), '--library-path', library, path]
 
 
-# A question on standard input, as crates/ask reads it, is a letter, and then its parts.
+# A question on standard input, as crates/test_ask reads it, is a letter, and then its parts.
 def number(n):
     return n.to_bytes(8, 'big', signed=True)
 

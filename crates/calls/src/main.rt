@@ -5,21 +5,21 @@ use buckettin::Written;
 
 fn shift(code: i64, latitude: i64, longitude: i64) {
     let shift = buckettin::buckettin_shift(code, latitude, longitude);
-    show::number(shift.refusal as i64);
-    show::three(shift.dlat, shift.dlon, shift.dh);
+    test_show::number(shift.refusal as i64);
+    test_show::three(shift.dlat, shift.dlon, shift.dh);
 }
 
 fn geoid(code: i64, latitude: i64, longitude: i64) {
     let geoid = buckettin::buckettin_geoid(code, latitude, longitude);
-    show::number(geoid.refusal as i64);
-    show::four_bytes(geoid.n);
+    test_show::number(geoid.refusal as i64);
+    test_show::four_bytes(geoid.n);
 }
 
 fn floats(code: i64, latitude: i64, longitude: i64) {
-    show::float(buckettin::buckettin_first(code, latitude, longitude));
-    show::float(buckettin::buckettin_second(code, latitude, longitude));
-    show::float(buckettin::buckettin_third(code, latitude, longitude));
-    show::number(buckettin::buckettin_refusal(code, latitude, longitude) as i64);
+    test_show::float(buckettin::buckettin_first(code, latitude, longitude));
+    test_show::float(buckettin::buckettin_second(code, latitude, longitude));
+    test_show::float(buckettin::buckettin_third(code, latitude, longitude));
+    test_show::number(buckettin::buckettin_refusal(code, latitude, longitude) as i64);
 }
 
 // A point through the six calls that take one.
@@ -30,71 +30,71 @@ fn point(code: i64, latitude: i64, longitude: i64) {
 }
 
 fn said_read(read: Read) {
-    show::number(read.refusal as i64);
-    show::four_bytes(read.ms);
+    test_show::number(read.refusal as i64);
+    test_show::four_bytes(read.ms);
 }
 
 // A text as a latitude and as a longitude.
 fn text() {
     let mut text = [0; 20];
-    let n = ask::text(&mut text);
+    let n = test_ask::text(&mut text);
     said_read(buckettin::buckettin_read_latitude(&text[..n]));
     said_read(buckettin::buckettin_read_longitude(&text[..n]));
 }
 
 fn said_written(written: Written) {
-    show::number(written.refusal as i64);
-    show::number(written.written as i64);
+    test_show::number(written.refusal as i64);
+    test_show::number(written.written as i64);
 }
 
 fn latitude(ms: i64, out: &mut [u8]) {
-    let room = ask::room(out);
+    let room = test_ask::room(out);
     let written = buckettin::buckettin_write_latitude(ms, &mut out[..room]);
     said_written(written);
-    show::text(out);
+    test_show::text(out);
 }
 
 fn longitude(ms: i64, out: &mut [u8]) {
-    let room = ask::room(out);
+    let room = test_ask::room(out);
     let written = buckettin::buckettin_write_longitude(ms, &mut out[..room]);
     said_written(written);
-    show::text(out);
+    test_show::text(out);
 }
 
 fn line(out: &mut [u8]) {
     let mut text = [0; 40];
-    let n = ask::text(&mut text);
-    let room = ask::room(out);
+    let n = test_ask::text(&mut text);
+    let room = test_ask::room(out);
     let written = buckettin::buckettin_line(&text[..n], &mut out[..room]);
     said_written(written);
-    show::text(out);
+    test_show::text(out);
 }
 
 fn sheet(unit: i64, out: &mut [u8]) {
     let mut bytes = [0; 20];
-    let n = ask::text(&mut bytes);
-    let room = ask::room(out);
+    let n = test_ask::text(&mut bytes);
+    let room = test_ask::room(out);
     let written = buckettin::buckettin_sheet(unit, &bytes[..n], &mut out[..room]);
     said_written(written);
-    show::bytes(out);
+    test_show::bytes(out);
 }
 
 fn answer(letter: u8) {
     match letter {
-        b'=' => ask::label(),
-        b'p' => point(ask::number(), ask::number(), ask::number()),
+        b'=' => test_ask::label(),
+        b'p' => point(test_ask::number(), test_ask::number(), test_ask::number()),
         b't' => text(),
-        b'a' => latitude(ask::number(), &mut [b'#'; 14]),
-        b'o' => longitude(ask::number(), &mut [b'#'; 14]),
+        b'a' => latitude(test_ask::number(), &mut [b'#'; 14]),
+        b'o' => longitude(test_ask::number(), &mut [b'#'; 14]),
         b'l' => line(&mut [b'#'; 24]),
-        b's' => sheet(ask::number(), &mut [b'#'; 20]),
+        b's' => sheet(test_ask::number(), &mut [b'#'; 20]),
         _ => {}
     }
 }
 
 // Whether something was asked.
 fn turn() -> bool {
-    let letter = ask::letter();
+    let letter = test_ask::letter();
     answer(letter);
     letter != 0
 }

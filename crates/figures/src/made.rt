@@ -14,35 +14,35 @@ use kinds::Wgs84LongitudeAnswer;
 
 fn local(n: i64) {
     match LocalLatitude::new(n) {
-        LocalLatitudeAnswer::Gives(x) => show::four_bytes(x.ms()),
-        LocalLatitudeAnswer::Refused(why) => show::refused(why),
+        LocalLatitudeAnswer::Gives(x) => test_show::four_bytes(x.ms()),
+        LocalLatitudeAnswer::Refused(why) => test_show::refused(why),
     }
     match LocalLongitude::new(n) {
-        LocalLongitudeAnswer::Gives(x) => show::four_bytes(x.ms()),
-        LocalLongitudeAnswer::Refused(why) => show::refused(why),
+        LocalLongitudeAnswer::Gives(x) => test_show::four_bytes(x.ms()),
+        LocalLongitudeAnswer::Refused(why) => test_show::refused(why),
     }
 }
 
 fn wgs84(n: i64) {
     match Wgs84Latitude::new(n) {
-        Wgs84LatitudeAnswer::Gives(x) => show::number(x.units()),
-        Wgs84LatitudeAnswer::Refused(why) => show::refused(why),
+        Wgs84LatitudeAnswer::Gives(x) => test_show::number(x.units()),
+        Wgs84LatitudeAnswer::Refused(why) => test_show::refused(why),
     }
     match Wgs84Longitude::new(n) {
-        Wgs84LongitudeAnswer::Gives(x) => show::number(x.units()),
-        Wgs84LongitudeAnswer::Refused(why) => show::refused(why),
+        Wgs84LongitudeAnswer::Gives(x) => test_show::number(x.units()),
+        Wgs84LongitudeAnswer::Refused(why) => test_show::refused(why),
     }
 }
 
 // A shift and a height, and each made again of its 4 bytes.
 fn difference(n: i64) {
     match AngleShift::new(n) {
-        AngleShiftAnswer::Gives(x) => show::four_bytes(AngleShift::of(x.units()).units()),
-        AngleShiftAnswer::Refused(why) => show::refused(why),
+        AngleShiftAnswer::Gives(x) => test_show::four_bytes(AngleShift::of(x.units()).units()),
+        AngleShiftAnswer::Refused(why) => test_show::refused(why),
     }
     match Height::new(n) {
-        HeightAnswer::Gives(x) => show::four_bytes(Height::of(x.mm()).mm()),
-        HeightAnswer::Refused(why) => show::refused(why),
+        HeightAnswer::Gives(x) => test_show::four_bytes(Height::of(x.mm()).mm()),
+        HeightAnswer::Refused(why) => test_show::refused(why),
     }
 }
 
@@ -58,11 +58,11 @@ pub(crate) fn converted(ms: i64, shift: i64) {
         return;
     };
     match LocalLatitude::new(ms) {
-        LocalLatitudeAnswer::Gives(x) => show::number(x.shifted(by).units()),
-        LocalLatitudeAnswer::Refused(why) => show::refused(why),
+        LocalLatitudeAnswer::Gives(x) => test_show::number(x.shifted(by).units()),
+        LocalLatitudeAnswer::Refused(why) => test_show::refused(why),
     }
     match LocalLongitude::new(ms) {
-        LocalLongitudeAnswer::Gives(x) => show::number(x.shifted(by).units()),
-        LocalLongitudeAnswer::Refused(why) => show::refused(why),
+        LocalLongitudeAnswer::Gives(x) => test_show::number(x.shifted(by).units()),
+        LocalLongitudeAnswer::Refused(why) => test_show::refused(why),
     }
 }

@@ -7,7 +7,7 @@ use kinds::Refusal;
 // A number over another: none below 1.
 fn quotient(n: i64, d: i64) {
     if 0 < d {
-        show::number(whole::round_div(n, d));
+        test_show::number(whole::round_div(n, d));
     }
 }
 
@@ -15,48 +15,48 @@ fn quotient(n: i64, d: i64) {
 fn powers(u: i64) {
     if whole::size(u) <= 1_000_000_000 {
         let p = equation::powers(whole::Parts(u));
-        show::number(p[2]);
-        show::number(p[3]);
-        show::number(p[4]);
-        show::number(p[5]);
-        show::number(p[6]);
-        show::number(p[7]);
-        show::number(p[8]);
-        show::number(p[9]);
+        test_show::number(p[2]);
+        test_show::number(p[3]);
+        test_show::number(p[4]);
+        test_show::number(p[5]);
+        test_show::number(p[6]);
+        test_show::number(p[7]);
+        test_show::number(p[8]);
+        test_show::number(p[9]);
     }
 }
 
 fn refusals() {
-    show::refused(Refusal::Length);
-    show::refused(Refusal::Kind);
-    show::refused(Refusal::Range);
-    show::refused(Refusal::Code);
-    show::refused(Refusal::Family);
-    show::refused(Refusal::Area);
-    show::refused(Refusal::Room);
-    show::refused(Refusal::Foreign);
-    show::refused(Refusal::Sheet);
+    test_show::refused(Refusal::Length);
+    test_show::refused(Refusal::Kind);
+    test_show::refused(Refusal::Range);
+    test_show::refused(Refusal::Code);
+    test_show::refused(Refusal::Family);
+    test_show::refused(Refusal::Area);
+    test_show::refused(Refusal::Room);
+    test_show::refused(Refusal::Foreign);
+    test_show::refused(Refusal::Sheet);
 }
 
 // A text, put at the start of a buffer, all of which is shown.
 fn put(out: &mut [u8]) {
     let mut text = [0; 20];
-    let n = ask::text(&mut text);
-    let room = ask::room(out);
+    let n = test_ask::text(&mut text);
+    let room = test_ask::room(out);
     let answer = kinds::put(&text[..n], &mut out[..room]);
-    show::written(answer);
-    show::text(out);
+    test_show::written(answer);
+    test_show::text(out);
 }
 
 fn answer(letter: u8) {
     match letter {
-        b'=' => ask::label(),
-        b'q' => quotient(ask::number(), ask::number()),
-        b'r' => show::number(whole::rounded(ask::number())),
-        b'p' => powers(ask::number()),
+        b'=' => test_ask::label(),
+        b'q' => quotient(test_ask::number(), test_ask::number()),
+        b'r' => test_show::number(whole::rounded(test_ask::number())),
+        b'p' => powers(test_ask::number()),
         b'n' => refusals(),
-        b'k' => made::all(ask::number()),
-        b'c' => made::converted(ask::number(), ask::number()),
+        b'k' => made::all(test_ask::number()),
+        b'c' => made::converted(test_ask::number(), test_ask::number()),
         b't' => put(&mut [b'#'; 14]),
         _ => {}
     }
@@ -64,7 +64,7 @@ fn answer(letter: u8) {
 
 // Whether something was asked.
 fn turn() -> bool {
-    let letter = ask::letter();
+    let letter = test_ask::letter();
     answer(letter);
     letter != 0
 }

@@ -7,23 +7,23 @@ use kinds::AngleShiftAnswer;
 use kinds::Height;
 
 fn shifted(shift: ShiftFloats) {
-    show::floats(shift.latitude, shift.longitude, shift.height);
+    test_show::floats(shift.latitude, shift.longitude, shift.height);
 }
 
 pub(crate) fn either(code: i64, latitude: i64, longitude: i64) {
     match floating::floating(code, latitude, longitude) {
         Answer::Shift(shift) => shifted(shift),
-        Answer::Geoid(height) => show::float(height),
-        Answer::Refused(number) => show::refusal(number),
+        Answer::Geoid(height) => test_show::float(height),
+        Answer::Refused(number) => test_show::refusal(number),
     }
 }
 
 // The four calls for a point.
 pub(crate) fn each(code: i64, latitude: i64, longitude: i64) {
-    show::float(floating::first(code, latitude, longitude));
-    show::float(floating::second(code, latitude, longitude));
-    show::float(floating::third(code, latitude, longitude));
-    show::number(floating::refusal(code, latitude, longitude) as i64);
+    test_show::float(floating::first(code, latitude, longitude));
+    test_show::float(floating::second(code, latitude, longitude));
+    test_show::float(floating::third(code, latitude, longitude));
+    test_show::number(floating::refusal(code, latitude, longitude) as i64);
 }
 
 // The floats of one whole number of 4 bytes as each of the three shifts.

@@ -8,7 +8,7 @@ use datum::Shifts;
 use kinds::HeightAnswer;
 
 fn shifted(shifts: Shifts) {
-    show::three(
+    test_show::three(
         shifts.latitude.units(),
         shifts.longitude.units(),
         shifts.height.mm(),
@@ -18,22 +18,22 @@ fn shifted(shifts: Shifts) {
 fn either(code: i64, latitude: i64, longitude: i64) {
     match datum::answer(code, latitude, longitude) {
         PointAnswer::Shift(shifts) => shifted(shifts),
-        PointAnswer::Geoid(height) => show::four_bytes(height.mm()),
-        PointAnswer::Refused(why) => show::refused(why),
+        PointAnswer::Geoid(height) => test_show::four_bytes(height.mm()),
+        PointAnswer::Refused(why) => test_show::refused(why),
     }
 }
 
 fn shift(code: i64, latitude: i64, longitude: i64) {
     match datum::shift(code, latitude, longitude) {
         ShiftAnswer::Gives(shifts) => shifted(shifts),
-        ShiftAnswer::Refused(why) => show::refused(why),
+        ShiftAnswer::Refused(why) => test_show::refused(why),
     }
 }
 
 fn geoid(code: i64, latitude: i64, longitude: i64) {
     match datum::geoid(code, latitude, longitude) {
-        HeightAnswer::Gives(height) => show::four_bytes(height.mm()),
-        HeightAnswer::Refused(why) => show::refused(why),
+        HeightAnswer::Gives(height) => test_show::four_bytes(height.mm()),
+        HeightAnswer::Refused(why) => test_show::refused(why),
     }
 }
 
@@ -47,16 +47,16 @@ fn point(code: i64, latitude: i64, longitude: i64) {
 
 fn answer(letter: u8) {
     match letter {
-        b'=' => ask::label(),
-        b'f' => floats::made(ask::number()),
-        b'p' => point(ask::number(), ask::number(), ask::number()),
+        b'=' => test_ask::label(),
+        b'f' => floats::made(test_ask::number()),
+        b'p' => point(test_ask::number(), test_ask::number(), test_ask::number()),
         _ => {}
     }
 }
 
 // Whether something was asked.
 fn turn() -> bool {
-    let letter = ask::letter();
+    let letter = test_ask::letter();
     answer(letter);
     letter != 0
 }

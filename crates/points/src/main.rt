@@ -4,16 +4,16 @@
 // A line, answered into the start of a buffer, all of which is shown.
 fn into(out: &mut [u8]) {
     let mut text = [0; 40];
-    let n = ask::text(&mut text);
-    let room = ask::room(out);
+    let n = test_ask::text(&mut text);
+    let room = test_ask::room(out);
     let answer = line::line(&text[..n], &mut out[..room]);
-    show::written(answer);
-    show::text(out);
+    test_show::written(answer);
+    test_show::text(out);
 }
 
 fn answer(letter: u8) {
     match letter {
-        b'=' => ask::label(),
+        b'=' => test_ask::label(),
         b'l' => into(&mut [b'#'; 40]),
         _ => {}
     }
@@ -21,7 +21,7 @@ fn answer(letter: u8) {
 
 // Whether something was asked.
 fn turn() -> bool {
-    let letter = ask::letter();
+    let letter = test_ask::letter();
     answer(letter);
     letter != 0
 }

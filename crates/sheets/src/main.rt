@@ -4,32 +4,32 @@ use kinds::WrittenAnswer;
 
 // A sheet, worked into the start of a buffer, all of which is shown.
 fn into(unit: i64, sheet: &[u8], out: &mut [u8]) {
-    let room = ask::room(out);
+    let room = test_ask::room(out);
     let answer = sheet::work(unit, sheet, &mut out[..room]);
-    show::written(answer);
-    show::bytes(out);
+    test_show::written(answer);
+    test_show::bytes(out);
 }
 
 // A sheet for a unit, with the size of the buffer: two bytes more than 500 points take, at most.
 fn one() {
-    let unit = ask::number();
+    let unit = test_ask::number();
     let mut sheet = [0; 4522];
-    let n = ask::text(&mut sheet);
+    let n = test_ask::text(&mut sheet);
     let mut out = [b'#'; 6508];
-    let size = ask::room(&out);
+    let size = test_ask::room(&out);
     into(unit, &sheet[..n], &mut out[..size]);
 }
 
 // The next sheet, for unit 7: the digit of its refusal, or of its first point's, or 0. Whether there is one.
 fn tried(out: &mut [u8]) -> bool {
-    if ask::letter() != b'+' {
+    if test_ask::letter() != b'+' {
         return false;
     }
     let mut sheet = [0; 38];
-    let n = ask::text(&mut sheet);
+    let n = test_ask::text(&mut sheet);
     match sheet::work(7, &sheet[..n], out) {
         WrittenAnswer::Gives(_) => first(out),
-        WrittenAnswer::Refused(why) => show::digit(why.number()),
+        WrittenAnswer::Refused(why) => test_show::digit(why.number()),
     }
     true
 }
@@ -37,7 +37,7 @@ fn tried(out: &mut [u8]) -> bool {
 // The first byte after the serial and the count of points.
 fn first(result: &[u8]) {
     if 6 < result.len() {
-        show::digit(result[6]);
+        test_show::digit(result[6]);
     }
 }
 
@@ -53,12 +53,12 @@ fn several(out: &mut [u8]) {
 fn all() {
     let mut out = [b'#'; 47];
     several(&mut out);
-    show::bytes(&out);
+    test_show::bytes(&out);
 }
 
 fn answer(letter: u8) {
     match letter {
-        b'=' => ask::label(),
+        b'=' => test_ask::label(),
         b'o' => one(),
         b's' => all(),
         _ => {}
@@ -67,7 +67,7 @@ fn answer(letter: u8) {
 
 // Whether something was asked.
 fn turn() -> bool {
-    let letter = ask::letter();
+    let letter = test_ask::letter();
     answer(letter);
     letter != 0
 }

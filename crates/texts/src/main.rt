@@ -7,22 +7,22 @@ use libc::STDIN_FILENO;
 // A number is printed in brackets, a refusal as its digit alone.
 fn latitude(text: &[u8]) {
     match position::read_latitude(text) {
-        LocalLatitudeAnswer::Gives(x) => show::bracketed(x.ms()),
-        LocalLatitudeAnswer::Refused(why) => show::digit(why.number()),
+        LocalLatitudeAnswer::Gives(x) => test_show::bracketed(x.ms()),
+        LocalLatitudeAnswer::Refused(why) => test_show::digit(why.number()),
     }
 }
 
 fn longitude(text: &[u8]) {
     match position::read_longitude(text) {
-        LocalLongitudeAnswer::Gives(x) => show::bracketed(x.ms()),
-        LocalLongitudeAnswer::Refused(why) => show::digit(why.number()),
+        LocalLongitudeAnswer::Gives(x) => test_show::bracketed(x.ms()),
+        LocalLongitudeAnswer::Refused(why) => test_show::digit(why.number()),
     }
 }
 
 // A text, read as each.
 fn read() {
     let mut text = [0; 20];
-    let n = ask::text(&mut text);
+    let n = test_ask::text(&mut text);
     latitude(&text[..n]);
     longitude(&text[..n]);
 }
@@ -37,33 +37,33 @@ fn read_twelve() {
 
 // A number, written as each into the start of a buffer, all of which is shown.
 fn latitude_into(ms: i64, out: &mut [u8]) {
-    let room = ask::room(out);
+    let room = test_ask::room(out);
     let answer = position::write_latitude(ms, &mut out[..room]);
-    show::written(answer);
-    show::text(out);
+    test_show::written(answer);
+    test_show::text(out);
 }
 
 fn longitude_into(ms: i64, out: &mut [u8]) {
-    let room = ask::room(out);
+    let room = test_ask::room(out);
     let answer = position::write_longitude(ms, &mut out[..room]);
-    show::written(answer);
-    show::text(out);
+    test_show::written(answer);
+    test_show::text(out);
 }
 
 fn answer(letter: u8) {
     match letter {
-        b'=' => ask::label(),
+        b'=' => test_ask::label(),
         b'r' => read(),
         b't' => read_twelve(),
-        b'a' => latitude_into(ask::number(), &mut [b'#'; 14]),
-        b'o' => longitude_into(ask::number(), &mut [b'#'; 14]),
+        b'a' => latitude_into(test_ask::number(), &mut [b'#'; 14]),
+        b'o' => longitude_into(test_ask::number(), &mut [b'#'; 14]),
         _ => {}
     }
 }
 
 // Whether something was asked.
 fn turn() -> bool {
-    let letter = ask::letter();
+    let letter = test_ask::letter();
     answer(letter);
     letter != 0
 }

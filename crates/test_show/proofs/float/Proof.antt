@@ -1,11 +1,11 @@
--- `show::float` is safe and ends: what equals itself is no NaN, and has bits. Assumes nothing.
+-- `test_show::float` is safe and ends: what equals itself is no NaN, and has bits. Assumes nothing.
 use mathlib.Core.Path.{_≡_}
 use mathlib.Core.Bool.{true, not, false≢true}
 use lib.Dec.{T}
 use lib.Ieee.{Float, nan, inf, fin, eq, isNan}
 use borrow.Author.Needs.{needs}
-use Rattle.show.proofs.float.Statement.{statement}
-use Rattle.show.proofs.float.Tie as tie
+use Rattle.test_show.proofs.float.Statement.{statement}
+use Rattle.test_show.proofs.float.Tie as tie
 
 a-number : (x : Float) → eq x x ≡ true → T (not (isNan x))
 unfolding eq isNan

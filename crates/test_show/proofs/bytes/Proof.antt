@@ -1,9 +1,9 @@
--- `show::bytes` is safe and ends. Assumes nothing.
+-- `test_show::bytes` is safe and ends. Assumes nothing.
 use Prim.Native.Nat.{_-_, _≤_}
 use lib.ListN.{length}
 use borrow.Author.Needs.{needs}
-use Rattle.show.proofs.bytes.Statement.{statement}
-use Rattle.show.proofs.bytes.Tie as tie
+use Rattle.test_show.proofs.bytes.Statement.{statement}
+use Rattle.test_show.proofs.bytes.Tie as tie
 
 abbrev Inv-loop : tie.InvT-loop
 Inv-loop bytes i₀ i = i ≤ length bytes
