@@ -1,8 +1,8 @@
 #!/usr/bin/env python3
-"""What the program `calls` is asked, every exported call as C would see it, and what it must print, worked out from the papers
-by tests/pages.py, tests/sheets.py and tests/lines.py.
+"""What the program `test_calls` is asked, every exported call as C would see it, and what it must print, worked out from the
+papers by tests/pages.py, tests/sheets.py and tests/lines.py.
 
-    python3 tests/calls.py --write   makes crates/calls/stdin and crates/calls/stdout
+    python3 tests/calls.py --write   makes crates/test_calls/stdin and crates/test_calls/stdout
     python3 tests/calls.py --check   holds these files, to which the gate holds the program, to what is worked out
 """
 import lines
@@ -92,4 +92,4 @@ def cases():
 
 if __name__ == '__main__':
     found = cases()
-    program.ended(program.held(program.of_cases('calls', found)), f'calls: {len(found)} calls agree')
+    program.ended(program.held(program.of_cases('test_calls', found)), f'calls: {len(found)} calls agree')

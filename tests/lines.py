@@ -1,6 +1,6 @@
 #!/usr/bin/env python3
-"""What the programs `lines` and `points` are asked, and what they must print, worked out from document 01 with Python's own
-reading of bytes. The reading of a text and a point's answer are those of tests/pages.py.
+"""What the programs `lines` and `test_points` are asked, and what they must print, worked out from document 01 with Python's
+own reading of bytes. The reading of a text and a point's answer are those of tests/pages.py.
 
     python3 tests/lines.py --write   makes their files stdin and stdout
     python3 tests/lines.py --check   holds these files, to which the gate holds the programs, to what is worked out; and that to
@@ -143,7 +143,7 @@ def until(reads, more, text):
 
 
 def points():
-    """What `points` is asked, and must print."""
+    """What `test_points` is asked, and must print."""
     good = INPUT.split(b'\n')[:2] + [at(*NUMBERS[answer]) for answer in ('0', '-222907 -1158440 -1')]
     two = {(first[0], second[0]): wrong(first, second) for first, second in pairs()}     # for two refusals, the last such line
     refused = [wrong(fault) for fault in FAULTS] + list(two.values())
@@ -152,7 +152,7 @@ def points():
 
 
 def files():
-    return {'crates/lines/stdin': given(), 'crates/lines/stdout': printed(given()), **program.of_cases('points', points())}
+    return {'crates/lines/stdin': given(), 'crates/lines/stdout': printed(given()), **program.of_cases('test_points', points())}
 
 
 def check():

@@ -1,6 +1,6 @@
 #!/usr/bin/env python3
 """The compiled code divides whole numbers by constants and holds no instruction that divides them: reads the machine code of the
-working rule in target/obj/pages.o, and of every function in target/staticlib/libbuckettin.a, which C calls.
+working rule in target/obj/test_pages.o, and of every function in target/staticlib/libbuckettin.a, which C calls.
 
 That a division by a literal becomes a multiplication is the compiler's doing, and nothing proves it: so it is looked at.
 Floats are divided, once for each value, as document 01 has it.
@@ -11,7 +11,7 @@ import sys
 
 import program
 
-PAGES = 'target/obj/pages.o'
+PAGES = 'target/obj/test_pages.o'
 # Functions into which the compiler puts whole::round_div, rounded and scaled, all with literal divisors, and equation::equation.
 HOT = ['equation::powers', 'datum::shift_at', 'datum::geoid_at']
 

@@ -1,6 +1,6 @@
 #!/usr/bin/env python3
-"""What the programs `figures`, `pages` and `texts` are asked, and what they must print, worked out from the papers with Python's
-fractions, regular expressions and floats.
+"""What the programs `test_figures`, `test_pages` and `test_texts` are asked, and what they must print, worked out from the
+papers with Python's fractions, regular expressions and floats.
 
     python3 tests/pages.py --write   makes their files stdin and stdout
     python3 tests/pages.py --check   holds these files, to which the gate holds the programs, to what is worked out; and the
@@ -306,7 +306,7 @@ def figures():
 
 def files():
     pages = floating() + points()
-    return {name: content for p, cases in (('figures', figures()), ('pages', pages), ('texts', texts()))
+    return {name: content for p, cases in (('test_figures', figures()), ('test_pages', pages), ('test_texts', texts()))
             for name, content in program.of_cases(p, cases).items()}
 
 
@@ -349,4 +349,5 @@ if __name__ == '__main__':
     problems, points_held = check()
     found = files()
     lines = sum(content.count(b'\n') for name, content in found.items() if name.endswith('stdout'))
-    program.ended(program.held(found) + problems, f'figures, pages, texts: {lines} lines and {points_held} points of the papers agree')
+    names = 'test_figures, test_pages, test_texts'
+    program.ended(program.held(found) + problems, f'{names}: {lines} lines and {points_held} points of the papers agree')

@@ -1,8 +1,8 @@
 #!/usr/bin/env python3
-"""What the program `sheets` is asked, and what it must print, worked out from document 01 with Python's own reading of bytes. A
-point's answer is that of tests/pages.py.
+"""What the program `test_sheets` is asked, and what it must print, worked out from document 01 with Python's own reading of
+bytes. A point's answer is that of tests/pages.py.
 
-    python3 tests/sheets.py --write   makes crates/sheets/stdin and crates/sheets/stdout
+    python3 tests/sheets.py --write   makes crates/test_sheets/stdin and crates/test_sheets/stdout
     python3 tests/sheets.py --check   holds these files, to which the gate holds the program, to what is worked out
 """
 import struct
@@ -195,4 +195,4 @@ def cases():
 
 if __name__ == '__main__':
     found = cases()
-    program.ended(program.held(program.of_cases('sheets', found)), f'sheets: {len(found)} lines agree')
+    program.ended(program.held(program.of_cases('test_sheets', found)), f'sheets: {len(found)} lines agree')

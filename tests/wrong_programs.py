@@ -15,16 +15,16 @@ from concurrent.futures import ThreadPoolExecutor
 
 import slips
 
-# the programs that run a crate, of which one at least must go wrong, where they are not `pages` alone
+# the programs that run a crate, of which one at least must go wrong, where they are not `test_pages` alone
 PROGRAMS = {
-    'whole': ['figures', 'lines'], 'kinds': ['figures'], 'equation': ['figures', 'pages'], 'position': ['texts'], 'numbers': ['sheets'],
-    'layout': ['sheets'], 'sheet': ['sheets'], 'decimal': ['points'], 'line': ['points'], 'stream': ['lines'], 'lines': ['lines'],
-    'buckettin': ['calls'],
+    'whole': ['test_figures', 'lines'], 'kinds': ['test_figures'], 'equation': ['test_figures', 'test_pages'],
+    'position': ['test_texts'], 'numbers': ['test_sheets'], 'layout': ['test_sheets'], 'sheet': ['test_sheets'],
+    'decimal': ['test_points'], 'line': ['test_points'], 'stream': ['lines'], 'lines': ['lines'], 'buckettin': ['test_calls'],
 }
 
 
 def programs(crate):
-    return PROGRAMS.get(crate, ['pages'])
+    return PROGRAMS.get(crate, ['test_pages'])
 
 
 def tried(name, slip=None):

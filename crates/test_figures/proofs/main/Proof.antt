@@ -1,7 +1,7 @@
--- `points::main` is safe and ends. Assumes nothing.
+-- `test_figures::main` is safe and ends. Assumes nothing.
 use native.Mathlib.Omega.{arith}
-use Rattle.points.proofs.main.Statement.{statement}
-use Rattle.points.proofs.main.Tie as tie
+use Rattle.test_figures.proofs.main.Statement.{statement}
+use Rattle.test_figures.proofs.main.Tie as tie
 
 abbrev Inv-loop : tie.InvT-loop
 Inv-loop turns₀ turns = Unit {0}

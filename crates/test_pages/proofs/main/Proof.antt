@@ -1,7 +1,7 @@
--- `sheets::main` is safe and ends. Assumes nothing.
+-- `test_pages::main` is safe and ends. Assumes nothing.
 use native.Mathlib.Omega.{arith}
-use Rattle.sheets.proofs.main.Statement.{statement}
-use Rattle.sheets.proofs.main.Tie as tie
+use Rattle.test_pages.proofs.main.Statement.{statement}
+use Rattle.test_pages.proofs.main.Tie as tie
 
 abbrev Inv-loop : tie.InvT-loop
 Inv-loop turns₀ turns = Unit {0}

@@ -1,7 +1,7 @@
--- `pages::main` is safe and ends. Assumes nothing.
+-- `test_sheets::main` is safe and ends. Assumes nothing.
 use native.Mathlib.Omega.{arith}
-use Rattle.pages.proofs.main.Statement.{statement}
-use Rattle.pages.proofs.main.Tie as tie
+use Rattle.test_sheets.proofs.main.Statement.{statement}
+use Rattle.test_sheets.proofs.main.Tie as tie
 
 abbrev Inv-loop : tie.InvT-loop
 Inv-loop turns₀ turns = Unit {0}

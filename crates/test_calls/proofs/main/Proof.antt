@@ -1,7 +1,7 @@
--- `calls::main` is safe and ends. Assumes nothing.
+-- `test_calls::main` is safe and ends. Assumes nothing.
 use native.Mathlib.Omega.{arith}
-use Rattle.calls.proofs.main.Statement.{statement}
-use Rattle.calls.proofs.main.Tie as tie
+use Rattle.test_calls.proofs.main.Statement.{statement}
+use Rattle.test_calls.proofs.main.Tie as tie
 
 abbrev Inv-loop : tie.InvT-loop
 Inv-loop turns₀ turns = Unit {0}

@@ -1,9 +1,9 @@
--- `sheets::several` is safe and ends. Assumes nothing.
+-- `test_sheets::several` is safe and ends. Assumes nothing.
 use mathlib.Core.Path.{_≡_}
 use lib.ListN.{length}
 use borrow.Author.Needs.{needs}
-use Rattle.sheets.proofs.several.Statement.{statement}
-use Rattle.sheets.proofs.several.Tie as tie
+use Rattle.test_sheets.proofs.several.Statement.{statement}
+use Rattle.test_sheets.proofs.several.Tie as tie
 
 abbrev Inv-loop : tie.InvT-loop
 Inv-loop out₀ left₀ out left = length out ≡ length out₀
