@@ -8,7 +8,7 @@ use lib.IntN.{ℤ, pos, negℤ}
 use lib.Ieee.{Float}
 use lib.ListN.{length, take, drop}
 use borrow.Author.Tests.{not-false}
-use Rattle.whole.specs.Round.{scale, roundDiv}
+use Rattle.whole.specs.Round.{roundDiv}
 use Rattle.whole.specs.Places.{fromPlaces, inPlaces}
 use Rattle.kinds.specs.Answer.{Answer, gives, refused, refusalOf, counted, lent}
 use Rattle.kinds.specs.Kinds.{within}
@@ -16,9 +16,9 @@ use Rattle.kinds.proofs.Answers.{told, is, is-or}
 use Rattle.position.specs.Text.{Coordinate, latitude, longitude, textLength, isAngle, inSixties, angle, allDigits, number, digitOf, spelled, digits, read, write}
 use Rattle.position.proofs.Demands as position
 use Rattle.equation.specs.Powers.{power, powersOf}
-use Rattle.equation.specs.Equation.{Term, sum, equationOf}
+use Rattle.equation.specs.Equation.{sum, equationOf}
 use Rattle.equation.specs.Exact.{Within}
-use Rattle.tables.specs.Page.{Family, shift, geoid, isShift, isGeoid, isEither, OfShift, OfGeoid}
+use Rattle.tables.specs.Page.{Equation, Family, shift, geoid, isShift, isGeoid, isEither, OfShift, OfGeoid}
 use Rattle.tables.specs.Rule.{inArea, powersU, powersV}
 use Rattle.datum.specs.Point.{pageOf, asked, shiftOf, geoidOf, answerOf, firstOf, secondOf, thirdOf}
 use Rattle.datum.specs.Exact.{exact}
@@ -64,10 +64,10 @@ module _ (code latitude longitude : ℤ) where
   abbrev heightInC : Geoid
   heightInC = geoidFields (geoidOf code latitude longitude)
 
-  work : List Term → ℤ
-  work terms = equationOf scale terms (powersU (pageOf code) latitude) (powersV (pageOf code) longitude)
+  work : Equation → ℤ
+  work e = equationOf (e .divisor) (e .terms) (powersU (pageOf code) latitude) (powersV (pageOf code) longitude)
 
-  family-answer : (family : Family (List Term) → Bool) (v : Family ℤ) → asked family code latitude longitude ≡ gives v → answerOf code latitude longitude ≡ gives v
+  family-answer : (family : Family Equation → Bool) (v : Family ℤ) → asked family code latitude longitude ≡ gives v → answerOf code latitude longitude ≡ gives v
   family-answer family v h =
       let p = datum.answered family code latitude longitude v .0 h in
       datum.answered isEither code latitude longitude v .1 ((p .0 .0, refl), p .1)

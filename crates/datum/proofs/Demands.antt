@@ -5,34 +5,37 @@ use mathlib.Core.List.{List, [], _∷_}
 use mathlib.Core.Logic.{_↔_, _⊎_}
 use Prim.Native.Nat.{ℕ, _<_, _^_}
 use lib.Dec.{T, lit<, lit≤}
-use lib.IntN.{ℤ, pos, negℤ, _-ℤ_, _*ℤ_}
+use lib.IntN.{ℤ, pos, negℤ}
 use Rattle.whole.specs.Round.{roundDiv}
+use Rattle.whole.proofs.Bools.{both}
 use Rattle.kinds.specs.Answer.{Answer, gives, refused, provided, Test}
-use Rattle.kinds.specs.Kinds.{within, isFourBytes}
+use Rattle.kinds.specs.Kinds.{within, isPosition, isFourBytes}
+use Rattle.kinds.specs.declared.Refusal.the-variants as Refusal
+use Rattle.kinds.specs.declared.Height.{Height}
+use Rattle.kinds.specs.declared.HeightAnswer.{HeightAnswer}
+use Rattle.kinds.specs.declared.HeightAnswer.the-variants as Geoid
 use Rattle.kinds.proofs.Answers.{one-of, first-failed, fails-at, number-back, rebuilt, determined, is, is-or}
 use Rattle.kinds.proofs.Demands.{given-where}
 use Rattle.equation.specs.Powers.{power, powersOf}
-use Rattle.equation.specs.Equation.{Term, sum}
+use Rattle.equation.specs.Equation.{sum}
 use Rattle.equation.specs.Exact.{whole, _times_, _to-the_, exactOf, Within, Beyond}
-use Rattle.equation.proofs.Fractions.{reaches}
-use Rattle.tables.specs.Page.{Page, Family, shift, geoid, isShift, isGeoid, isEither, each, Each, OfShift, OfGeoid}
-use Rattle.tables.specs.Rule.{inArea, worked}
-use Rattle.datum.specs.Point.{isCode, pageOf, inRange, pointOf, tests, asked, answerOf, shiftOf, geoidOf, valuesOf}
-use Rattle.datum.specs.Exact.{exact, AllWithin, demanded, boundsOf}
-use Rattle.datum.specs.Cases.{shiftAnswer, geoidAnswer, pointAnswer}
-use Rattle.kinds.specs.declared.Refusal.the-variants as Refusal
-use Rattle.kinds.specs.declared.HeightAnswer.{HeightAnswer}
-use Rattle.kinds.specs.declared.HeightAnswer.the-variants as Geoid
+use Rattle.tables.specs.Page.{Page, Equation, Family, shift, geoid, isShift, isGeoid, isEither, each, Each, OfShift, OfGeoid}
+use Rattle.tables.specs.Rule.{inBox, inArea, worked}
+use Rattle.tables.proofs.Limits.{row-keeps}
+use Rattle.datum.specs.Point.{isCode, row, pageOf, pointOf, tests, asked, answerOf, shiftOf, geoidOf, valuesOf}
+use Rattle.datum.specs.Exact.{exact, atCentre, AllWithin, demanded, boundsOf}
+use Rattle.datum.specs.Cases.{shiftSays, geoidSays, shiftAnswer, geoidAnswer, pointAnswer}
+use Rattle.datum.specs.declared.Shifts.{Shifts}
 use Rattle.datum.specs.declared.ShiftAnswer.{ShiftAnswer}
 use Rattle.datum.specs.declared.ShiftAnswer.the-variants as Shifted
 use Rattle.datum.specs.declared.PointAnswer.{PointAnswer}
 use Rattle.datum.specs.declared.PointAnswer.the-variants as Point
-use Rattle.datum.proofs.Codes.{six, not-shift, not-geoid, code-keeps, code-in-range}
-use Rattle.datum.proofs.Points.{fit, in-range}
-use Rattle.datum.proofs.Errors.{page-bounded, point-near, no-narrower, all-widened, over-power, centres-apart, no-one-answer}
+use Rattle.datum.proofs.Codes.{not-shift, not-geoid}
+use Rattle.datum.proofs.Points.{fit}
+use Rattle.datum.proofs.Errors.{point-near, row-bounded, no-narrower, all-widened, same-demand, row-demanded, over-power, row-over, centres-apart, no-one-answer}
 
 -- ---- 'Order for a point: 4, 5, 3, 6': when each number is given, whichever family is asked of
-module _ (family : Family (List Term) → Bool) (code latitude longitude : ℤ) where
+module _ (family : Family Equation → Bool) (code latitude longitude : ℤ) where
   abbrev page : Page
   page = pageOf code
 
@@ -51,10 +54,10 @@ module _ (family : Family (List Term) → Bool) (code latitude longitude : ℤ) 
   pub given-5 : (asked family code latitude longitude ≡ refused 5) ↔ ((isCode code ≡ true) × (isAsked ≡ false))
   given-5 = fails-at inTurn value 1 refl
 
-  pub given-3 : (asked family code latitude longitude ≡ refused 3) ↔ ((isCode code ≡ true) × ((isAsked ≡ true) × (inRange latitude longitude ≡ false)))
+  pub given-3 : (asked family code latitude longitude ≡ refused 3) ↔ ((isCode code ≡ true) × ((isAsked ≡ true) × (isPosition latitude longitude ≡ false)))
   given-3 = fails-at inTurn value 2 refl
 
-  pub given-6 : (asked family code latitude longitude ≡ refused 6) ↔ ((isCode code ≡ true) × ((isAsked ≡ true) × ((inRange latitude longitude ≡ true) × (inArea page latitude longitude ≡ false))))
+  pub given-6 : (asked family code latitude longitude ≡ refused 6) ↔ ((isCode code ≡ true) × ((isAsked ≡ true) × ((isPosition latitude longitude ≡ true) × (inArea page latitude longitude ≡ false))))
   given-6 = fails-at inTurn value 3 refl
 
   -- no other number is given
@@ -66,7 +69,7 @@ module _ (family : Family (List Term) → Bool) (code latitude longitude : ℤ) 
   above-0 n e = is-or 4 (lit< tt) (is-or 5 (lit< tt) (is-or 3 (lit< tt) (is 6 (lit< tt)))) (given-one-of n e)
 
   -- and where none is, the answer is the one that the printed coefficients give
-  pub answered : (values : Family ℤ) → (asked family code latitude longitude ≡ gives values) ↔ (((isCode code ≡ true) × (isAsked ≡ true)) × (((inRange latitude longitude ≡ true) × (inArea page latitude longitude ≡ true)) × (worked page latitude longitude ≡ values)))
+  pub answered : (values : Family ℤ) → (asked family code latitude longitude ≡ gives values) ↔ (((isCode code ≡ true) × (isAsked ≡ true)) × (((isPosition latitude longitude ≡ true) × (inArea page latitude longitude ≡ true)) × (worked page latitude longitude ≡ values)))
   answered values = (
     (λ h.
         let p = given-where inTurn value values .0 h in
@@ -92,7 +95,7 @@ pub answer-never-5 : (code latitude longitude : ℤ) → answerOf code latitude 
 answer-never-5 code latitude longitude h = false≢true (sym (given-5 isEither code latitude longitude .0 h .1))
 
 -- and a shift or a geoid height is that, with the family tested
-pub family-tested : (family : Family (List Term) → Bool) (code latitude longitude : ℤ) → asked family code latitude longitude ≡ provided (isCode code) 4 (provided (isAsked family code latitude longitude) 5 (answerOf code latitude longitude))
+pub family-tested : (family : Family Equation → Bool) (code latitude longitude : ℤ) → asked family code latitude longitude ≡ provided (isCode code) 4 (provided (isAsked family code latitude longitude) 5 (answerOf code latitude longitude))
 family-tested family code latitude longitude = go (isCode code)
   where
     point : Answer (Family ℤ)
@@ -109,11 +112,11 @@ pub three-values : {A : Type 0} (none a b c : A) (n : ℕ)
 three-values none a b c n = (refl, refl, refl)
 
 -- ---- the answers fit 4 bytes
-pub four-bytes : (family : Family (List Term) → Bool) (code latitude longitude : ℤ) {values : Family ℤ} → asked family code latitude longitude ≡ gives values → each isFourBytes values ≡ true
+pub four-bytes : (family : Family Equation → Bool) (code latitude longitude : ℤ) {values : Family ℤ} → asked family code latitude longitude ≡ gives values → each isFourBytes values ≡ true
 four-bytes family code latitude longitude {values} h =
     let p = answered family code latitude longitude values .0 h in
     subst (λ (v : Family ℤ). each isFourBytes v ≡ true) (p .1 .1)
-    (fit (pageOf code) (code-keeps code (p .0 .0)) latitude longitude (p .1 .0 .1))
+    (fit (pageOf code) (row-keeps (row code)) latitude longitude (both (isPosition latitude longitude) (inBox (pageOf code) latitude longitude) (p .1 .0 .1) .1))
 
 -- ---- demand 3: how near the answer is to the exact value of the printed polynomial
 -- the exact value is a fraction: dLat of code 1 at document 000's test point, times this bottom, is this top
@@ -123,26 +126,22 @@ exact-worked = record { proper = lit< tt; near = lit≤ tt }
 
 -- each exact value is a whole number over the 18th power of 360,000,000,000,000
 pub over-one-power : (code latitude longitude : ℤ) → isCode code ≡ true → Each (λ f. (n : ℤ) × Within 0 1 (f times whole (pos (360000000000000 ^ 18))) n) (exact (pageOf code) latitude longitude)
-over-one-power code latitude longitude h =
-    over-power 18 (pos (pageOf code .k) *ℤ (latitude -ℤ pos (pageOf code .latitude))) (pos (pageOf code .k) *ℤ (longitude -ℤ pos (pageOf code .longitude))) (pageOf code .equations) (lit< tt)
-    (six (λ z. T (each (reaches 18) (pageOf z .equations))) tt tt tt tt tt tt code h)
+over-one-power code latitude longitude h = over-power (pageOf code) (row-over (row code)) latitude longitude
 
-module _ (family : Family (List Term) → Bool) (code latitude longitude : ℤ) where
+module _ (family : Family Equation → Bool) (code latitude longitude : ℤ) where
   -- whichever call gives values, each is within its bound in the table
   pub within-bounds : {values : Family ℤ} → asked family code latitude longitude ≡ gives values → AllWithin 1000 (boundsOf code) (exact (pageOf code) latitude longitude) values
   within-bounds {values} h =
       let p = answered family code latitude longitude values .0 h in
       subst (AllWithin 1000 (boundsOf code) (exact (pageOf code) latitude longitude)) (p .1 .1)
-      (point-near (pageOf code) latitude longitude (p .1 .0 .1) 1000 (boundsOf code)
-      (six (λ z. T (page-bounded 1000 (boundsOf z) (pageOf z))) tt tt tt tt tt tt code (p .0 .0)))
+      (point-near (pageOf code) (row-keeps (row code)) (row-bounded (row code)) latitude longitude (both (isPosition latitude longitude) (inBox (pageOf code) latitude longitude) (p .1 .0 .1) .1))
 
   -- so demand 3 is met
   pub as-demanded : {values : Family ℤ} → asked family code latitude longitude ≡ gives values → AllWithin 1 (demanded values) (exact (pageOf code) latitude longitude) values
   as-demanded {values} h =
-      let p = answered family code latitude longitude values .0 h in
       all-widened 1000 1 (lit< tt) (boundsOf code) (demanded values) (exact (pageOf code) latitude longitude) values
-      (subst (λ (v : Family ℤ). T (no-narrower 1000 1 (boundsOf code) (demanded v))) (p .1 .1)
-      (six (λ z. T (no-narrower 1000 1 (boundsOf z) (demanded (worked (pageOf z) latitude longitude)))) tt tt tt tt tt tt code (p .0 .0)))
+      (subst (λ (v : Family ℤ). T (no-narrower 1000 1 (boundsOf code) (demanded v))) (answered family code latitude longitude values .0 h .1 .1)
+      (subst (λ (d : Family ℕ). T (no-narrower 1000 1 (boundsOf code) d)) (sym (same-demand _ (pageOf code .equations))) (row-demanded (row code))))
       (within-bounds h)
 
   -- and 'each point in its area' is answered: a call that takes the code's family refuses none of them
@@ -150,7 +149,8 @@ module _ (family : Family (List Term) → Bool) (code latitude longitude : ℤ) 
       → (asked family code latitude longitude ≡ gives (worked (pageOf code) latitude longitude))
       × AllWithin 1 (demanded (worked (pageOf code) latitude longitude)) (exact (pageOf code) latitude longitude) (worked (pageOf code) latitude longitude)
   in-its-area is-code is-asked inside =
-      let e = answered family code latitude longitude (worked (pageOf code) latitude longitude) .1 ((is-code, is-asked), ((in-range (pageOf code) latitude longitude (code-in-range code is-code) inside, inside), refl)) in
+      let ranged = both (isPosition latitude longitude) (inBox (pageOf code) latitude longitude) inside .0 in
+      let e = answered family code latitude longitude (worked (pageOf code) latitude longitude) .1 ((is-code, is-asked), ((ranged, inside), refl)) in
       (e, as-demanded e)
 
   -- a shift's three numbers are within 2, 2 and 1 units of the exact values of their polynomials
@@ -180,11 +180,24 @@ over-half = record {
 
 -- 'One fixed answer breaks demand 3 between two centres': whichever two they are
 pub no-fixed-answer : (c d : ℤ) → isCode c ≡ true → isCode d ≡ true → (c ≡ d → ⊥) → (values : Family ℤ)
-    → AllWithin 1 (demanded values) (exact (pageOf c) (pos (pageOf c .latitude)) (pos (pageOf c .longitude))) values
-    → AllWithin 1 (demanded values) (exact (pageOf d) (pos (pageOf d .latitude)) (pos (pageOf d .longitude))) values → ⊥
+    → AllWithin 1 (demanded values) (atCentre (pageOf c)) values → AllWithin 1 (demanded values) (atCentre (pageOf d)) values → ⊥
 no-fixed-answer c d h k other values = no-one-answer _ _ values (centres-apart c d h k other)
 
 -- ---- 'that two permitted answers coincide is proved'
+pub shifts-determined : (a b : Shifts) → shiftSays a ≡ shiftSays b → a ≡ b
+shifts-determined a b h = ap rebuilt h
+  where
+    rebuilt : Family ℤ → Shifts
+    rebuilt (shift x y z) = record { latitude = record { 0 = x }; longitude = record { 0 = y }; height = record { 0 = z } }
+    rebuilt (geoid n) = a
+
+pub geoid-height-determined : (a b : Height) → geoidSays a ≡ geoidSays b → a ≡ b
+geoid-height-determined a b h = ap rebuilt h
+  where
+    rebuilt : Family ℤ → Height
+    rebuilt (shift x y z) = a
+    rebuilt (geoid n) = record { 0 = n }
+
 -- two answers that say the same are the same
 pub shift-determined : (a b : ShiftAnswer) → shiftAnswer a ≡ shiftAnswer b → a ≡ b
 shift-determined = determined yes Shifted.Refused shiftAnswer back

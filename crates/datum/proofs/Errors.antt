@@ -1,82 +1,91 @@
--- How near a point's values are to the exact ones: the test of a page, and what it shows of every point of the area. The
+-- How near a point's values are to the exact ones: the test of a page, and what it shows of every point of the box. The
 -- theorem itself is `answer-near` of `equation`. Assumes nothing.
-use mathlib.Core.Path.{_≡_, refl}
-use mathlib.Core.Bool.{Bool, true, false, not}
+use mathlib.Core.Path.{_≡_, refl, sym, ap, _∙_, subst}
+use mathlib.Core.Bool.{Bool, true, false, not, _&&_, _||_}
 use mathlib.Core.List.{List}
-use Prim.Native.Nat.{ℕ, _-_, _*_, _^_, _≤_, _<_}
+use Prim.Native.Nat.{ℕ, _+_, _-_, _*_, _^_, _≤_, _<_}
+use native.Mathlib.Nat.{mul-pos}
 use native.Mathlib.Omega.{arith}
-use lib.Dec.{T, leb, leb→le, ltb, ltb→lt, lit<, lit≤}
+use lib.Dec.{T, eqb, eqb→eq, leb, leb→le, ltb, ltb→lt, lit<, lit≤}
 use lib.IntN.{ℤ, pos, natAbs, _-ℤ_, _*ℤ_}
+use lib.ListN.{getD, drop}
 use borrow.Author.Tests.{leb-true, leb-false}
-use Rattle.whole.specs.Round.{scale}
+use mir.Facts.{and-yes}
+use Rattle.whole.specs.Round.{roundDiv, scale}
+use Rattle.whole.specs.Every.{every}
+use Rattle.whole.proofs.Bools.{three}
+use Rattle.whole.proofs.Every.{every-place}
 use Rattle.equation.specs.Equation.{Term, equationOf}
 use Rattle.equation.specs.Exact.{Fraction, _over_, whole, _times_, _to-the_, exactOf, Within}
-use Rattle.equation.proofs.Fractions.{exact-proper, same-times, within-same, within-wider, within-both, reaches, common, over-common}
+use Rattle.equation.proofs.Fractions.{within-same, within-wider, within-both, same-scaled, exact-proper, reaches, common, over-common}
 use Rattle.equation.proofs.Errors.{bounded, bounded-wider, answer-near}
-use Rattle.tables.specs.Page.{Page, Family, shift, geoid, each, Each, Paired}
-use Rattle.tables.specs.Rule.{inArea, powersU, powersV, evaluated, worked}
-use Rattle.tables.proofs.Families.{three, each-by, each-of, paired, paired-by, shift-so, geoid-so}
-use Rattle.tables.proofs.Limits.{most-u, most-v, u-size, v-size}
+use Rattle.tables.specs.Page.{Page, Equation, Family, shift, geoid, ofEach, each, Each}
+use Rattle.tables.specs.Cyprus.{cyprus}
+use Rattle.tables.specs.Tables.{pages}
+use Rattle.tables.specs.Rule.{longitudeOn, inBox, powersU, powersV, worked}
+use Rattle.tables.proofs.Families.{each-by, each-of, paired, shift-so, geoid-so}
+use Rattle.tables.proofs.Limits.{page-keeps, most-u, most-v, u-size, v-size}
 use Rattle.datum.specs.Point.{isCode, pageOf}
-use Rattle.datum.specs.Exact.{exactFrom, polynomials, exact, AllNear, AllWithin, demanded, boundsOf}
-use Rattle.datum.proofs.Codes.{six}
+use Rattle.datum.specs.Exact.{exactAlong, exactAt, exact, atCentre, AllNear, AllWithin, demanded}
+use Rattle.datum.proofs.Codes.{numbered, of-each, each-code}
 
--- ---- the test of a page: each equation, with its bound in nths of a unit
+-- ---- the test of a page: each equation with its bound, in thousandths of a unit, and with no smaller one
 -- errors on the way are counted in millionths
 abbrev fine : ℕ
 fine = 1000000
 
-abbrev table-bounded : Page → ℕ → ℕ → List Term → Bool
-table-bounded page n h table = bounded scale fine 3600000 scale (most-u page) (most-v page) h n table
+abbrev within-h : Page → ℕ → Equation → Bool
+within-h page h e = bounded scale fine (page .u .divisor) (page .v .divisor) (e .divisor) (most-u page) (most-v page) h 1000 (e .terms)
 
-abbrev pub page-bounded : ℕ → Family ℕ → Page → Bool
-page-bounded n bounds page = paired (table-bounded page n) bounds (page .equations)
+abbrev equation-bounded : Page → Equation → Bool
+equation-bounded page e = within-h page (e .bound) e && not (within-h page (e .bound - 1) e)
 
--- ---- with no smaller bounds than those of specs/Exact does the test hold
-abbrev less-fails : Page → ℕ → List Term → Bool
-less-fails page h table = not (table-bounded page 1000 (h - 1) table)
+abbrev page-bounded : Page → Bool
+page-bounded page = each (equation-bounded page) (page .equations)
 
-at-least : (page : Page) (h : ℕ) (table : List Term) → T (less-fails page h table) → (g : ℕ) → T (table-bounded page 1000 g table) → h ≤ g
-at-least page h table fails g passes = go (leb h g) refl
+all-bounded : T (every page-bounded pages)
+unfolding roundDiv
+all-bounded = tt
+
+pub row-bounded : (n : ℕ) → T (page-bounded (getD pages n cyprus))
+row-bounded = every-place page-bounded cyprus (drop 1 pages) all-bounded
+
+-- with no smaller bound than the page's does the test hold
+pub smallest : (page : Page) → T (page-bounded page) → Each (λ e. (h : ℕ) → T (within-h page h e) → e .bound ≤ h) (page .equations)
+smallest page = each-by (equation-bounded page) at-least (page .equations)
   where
     neither : (b : Bool) → T (not b) → T b → ⊥
     neither true p q = p
     neither false p q = q
 
-    go : (b : Bool) → leb h g ≡ b → h ≤ g
-    go true e = leb-true h g e
-    go false e =
-        let less : g ≤ h - 1 = omega (arith, leb-false h g e) in
-        absurd (neither (table-bounded page 1000 (h - 1) table) fails (bounded-wider scale fine 3600000 scale (most-u page) (most-v page) 1000 table less passes))
+    at-least : (e : Equation) → T (equation-bounded page e) → (h : ℕ) → T (within-h page h e) → e .bound ≤ h
+    at-least e t h passes = go (leb (e .bound) h) refl
+      where
+        go : (b : Bool) → leb (e .bound) h ≡ b → e .bound ≤ h
+        go true k = leb-true (e .bound) h k
+        go false k =
+            let less : h ≤ e .bound - 1 = omega (arith, leb-false (e .bound) h k) in
+            absurd
+            (neither (within-h page (e .bound - 1) e) (and-yes (within-h page (e .bound) e) (not (within-h page (e .bound - 1) e)) t .1)
+            (bounded-wider scale fine (page .u .divisor) (page .v .divisor) (e .divisor) (most-u page) (most-v page) 1000 (e .terms) less passes))
 
-pub smallest : (code : ℤ) → isCode code ≡ true → Paired (λ h table. (g : ℕ) → T (table-bounded (pageOf code) 1000 g table) → h ≤ g) (boundsOf code) (pageOf code .equations)
-smallest code h =
-    paired-by (less-fails (pageOf code)) (at-least (pageOf code)) (boundsOf code) (pageOf code .equations)
-    (six (λ z. T (paired (less-fails (pageOf z)) (boundsOf z) (pageOf z .equations))) tt tt tt tt tt tt code h)
+-- ---- what holds of each equation's bound, exact value and answer
+pub all-of : {A B : Type 0} (near : ℕ → Fraction → B → Type 0) (f : A → ℕ) (g : A → Fraction) (k : A → B) (family : Family A) → Each (λ a. near (f a) (g a) (k a)) family → AllNear near (ofEach f family) (ofEach g family) (ofEach k family)
+all-of near f g k (shift a b c) h = h
+all-of near f g k (geoid n) h = h
 
--- ---- what the test shows of a point of the area
-module _ (page : Page) (latitude longitude : ℤ) (inside : inArea page latitude longitude ≡ true) where
-  abbrev exactU : Fraction
-  exactU = exactFrom (pos (page .k)) (pos (page .latitude)) latitude
-
-  abbrev exactV : Fraction
-  exactV = exactFrom (pos (page .k)) (pos (page .longitude)) longitude
-
-  table-near : (n h : ℕ) (table : List Term) → T (table-bounded page n h table) → Within h n (exactOf table exactU exactV) (equationOf scale table (powersU page latitude) (powersV page longitude))
-  table-near n h table test =
-      within-same (exactOf table exactU exactV) _ (same-times (exactOf table exactU exactV) scale) (exact-proper exactU exactV (lit< tt) (lit< tt) table)
-      (answer-near scale fine 3600000 scale (most-u page) (most-v page) h n table
-      (pos (page .k) *ℤ (latitude -ℤ pos (page .latitude))) (pos (page .k) *ℤ (longitude -ℤ pos (page .longitude)))
-      (u-size page latitude longitude inside) (v-size page latitude longitude inside) test)
-
-  tables-near : (n : ℕ) (bounds : Family ℕ) (tables : Family (List Term)) → T (paired (table-bounded page n) bounds tables) → AllWithin n bounds (polynomials tables exactU exactV) (evaluated tables (powersU page latitude) (powersV page longitude))
-  tables-near n (shift h i j) (shift dLat dLon dH) test = paired-by (table-bounded page n) (table-near n) (shift h i j) (shift dLat dLon dH) test
-  tables-near n (geoid h) (geoid table) test = table-near n h table test
-  tables-near n (shift h i j) (geoid table) test = absurd test
-  tables-near n (geoid h) (shift dLat dLon dH) test = absurd test
-
-  pub point-near : (n : ℕ) (bounds : Family ℕ) → T (page-bounded n bounds page) → AllWithin n bounds (exact page latitude longitude) (worked page latitude longitude)
-  point-near n bounds test = tables-near n bounds (page .equations) test
+-- so what the test shows of a point of the box
+pub point-near : (page : Page) → T (page-keeps page) → T (page-bounded page) → (latitude longitude : ℤ) → inBox page latitude longitude ≡ true
+    → AllWithin 1000 (ofEach (λ e. e .bound) (page .equations)) (exact page latitude longitude) (worked page latitude longitude)
+point-near page keeps test latitude longitude inside =
+    all-of (λ h exact value. Within h 1000 exact value) (λ e. e .bound) _ _ (page .equations) (each-by (equation-bounded page) near (page .equations) test)
+  where
+    near : (e : Equation) → T (equation-bounded page e) → Within (e .bound) 1000 (exactAt (exactAlong (page .u) latitude) (exactAlong (page .v) (longitudeOn page longitude)) e) (equationOf (e .divisor) (e .terms) (powersU page latitude) (powersV page longitude))
+    near e t =
+        answer-near scale fine (page .u .divisor) (page .v .divisor) (e .divisor) (most-u page) (most-v page) (e .bound) 1000 (e .terms)
+        (pos (page .u .factor) *ℤ latitude -ℤ page .u .offset) (pos (page .v .factor) *ℤ longitudeOn page longitude -ℤ page .v .offset)
+        (u-size page keeps latitude longitude inside) (v-size page keeps latitude longitude inside)
+        (and-yes (within-h page (e .bound) e) (not (within-h page (e .bound - 1) e)) t .0)
 
 -- ---- wider bounds
 -- what is so near by one bound is so near by another, where a test says that it is no narrower
@@ -96,15 +105,59 @@ no-narrower n m = paired (λ h o. leb (m * h) (o * n))
 pub all-widened : (n m : ℕ) → 0 < n → (narrow wide : Family ℕ) (exacts : Family Fraction) (values : Family ℤ) → T (no-narrower n m narrow wide) → AllWithin n narrow exacts values → AllWithin m wide exacts values
 all-widened n m p = all-nearer (λ h o. leb (m * h) (o * n)) (λ h o f x t w. within-wider o m p (leb→le (m * h) (o * n) t) w)
 
+-- what is demanded of values that were worked out is what is demanded of the equations
+pub same-demand : {A B : Type 0} (f : A → B) (family : Family A) → demanded (ofEach f family) ≡ demanded family
+same-demand f (shift a b c) = refl
+same-demand f (geoid n) = refl
+
+-- the bounds of a page are no wider than demand 3, nor are they with a thousandth of a unit more, which a float may take
+abbrev page-demanded : (Family ℕ → Family ℕ) → Page → Bool
+page-demanded made page = no-narrower 1000 1 (made (ofEach (λ e. e .bound) (page .equations))) (demanded (page .equations))
+
+pub row-demanded : (n : ℕ) → T (page-demanded (λ bounds. bounds) (getD pages n cyprus))
+row-demanded = every-place (page-demanded (λ bounds. bounds)) cyprus (drop 1 pages) tt
+
+pub row-float-demanded : (n : ℕ) → T (page-demanded (ofEach (λ h. h + 1)) (getD pages n cyprus))
+row-float-demanded = every-place (page-demanded (ofEach (λ h. h + 1))) cyprus (drop 1 pages) tt
+
 -- ---- over one power of the bottom of U and V
 abbrev Over : ℕ → Fraction → Type 0
 Over d f = (n : ℤ) × Within 0 1 (f times whole (pos d)) n
 
-pub over-power : (n : ℕ) {d : ℕ} (a b : ℤ) (tables : Family (List Term)) → 0 < d → T (each (reaches n) tables) → Each (Over (d ^ n)) (polynomials tables (a over d) (b over d))
-over-power n {d} a b tables p test = each-of (Over (d ^ n)) value tables (each-by {P = λ table. Over (d ^ n) (value table)} (reaches n) (λ table t. (common d n a b table, over-common d n a b table p t)) tables test)
+-- of equations with at most 18 factors in a term, that are divided by the scale alone, on axes that are divided by 3,600,000
+abbrev reached : Equation → Bool
+reached e = reaches 18 (e .terms) && eqb (e .divisor) scale
+
+abbrev page-over : Page → Bool
+page-over page = eqb (page .u .divisor) 3600000 && (eqb (page .v .divisor) 3600000 && each reached (page .equations))
+
+pub row-over : (n : ℕ) → T (page-over (getD pages n cyprus))
+row-over = every-place page-over cyprus (drop 1 pages) tt
+
+by-number : (ts : List Term) (a b : ℤ) {m k d : ℕ} → m ≡ 3600000 → k ≡ 3600000 → d ≡ scale → T (reaches 18 ts) → Over (360000000000000 ^ 18) (exactOf ts (a over (m * scale)) (b over (k * scale)) times (pos scale over d))
+by-number ts a b hm hk hd t =
+    let f = exactOf ts (a over 360000000000000) (b over 360000000000000) in (
+      common 360000000000000 18 a b ts,
+      rw (hm, hk, hd)
+      (within-same (f times (pos scale over scale) times whole (pos (360000000000000 ^ 18))) (f times whole (pos (360000000000000 ^ 18))) (same-scaled f scale (360000000000000 ^ 18))
+      (mul-pos (mul-pos (exact-proper (a over 360000000000000) (b over 360000000000000) (lit< tt) (lit< tt) ts) (lit< tt)) (lit< tt)) (over-common 360000000000000 18 a b ts (lit< tt) t)),
+    )
+
+pub over-power : (page : Page) → T (page-over page) → (latitude longitude : ℤ) → Each (Over (360000000000000 ^ 18)) (exact page latitude longitude)
+over-power page test latitude longitude =
+    each-of (Over (360000000000000 ^ 18)) value (page .equations) (each-by {P = λ e. Over (360000000000000 ^ 18) (value e)} reached one (page .equations) (t .2))
   where
-    value : List Term → Fraction
-    value table = exactOf table (a over d) (b over d)
+    t : T (eqb (page .u .divisor) 3600000) × T (eqb (page .v .divisor) 3600000) × T (each reached (page .equations))
+    t = three (eqb (page .u .divisor) 3600000) (eqb (page .v .divisor) 3600000) (each reached (page .equations)) test
+
+    value : Equation → Fraction
+    value = exactAt (exactAlong (page .u) latitude) (exactAlong (page .v) (longitudeOn page longitude))
+
+    one : (e : Equation) → T (reached e) → Over (360000000000000 ^ 18) (value e)
+    one e r =
+        let p = and-yes (reaches 18 (e .terms)) (eqb (e .divisor) scale) r in
+        by-number (e .terms) (pos (page .u .factor) *ℤ latitude -ℤ page .u .offset) (pos (page .v .factor) *ℤ longitudeOn page longitude -ℤ page .v .offset)
+        (eqb→eq (page .u .divisor) 3600000 (t .0)) (eqb→eq (page .v .divisor) 3600000 (t .1)) (eqb→eq (e .divisor) scale (p .1)) (p .0)
 
 -- ---- two points whose exact values no one answer meets
 -- more than four units apart, so that nothing is within two of both
@@ -130,20 +183,23 @@ no-one-answer (shift e a b) (geoid f) (shift x y z) far v w = w
 no-one-answer (shift e a b) f (geoid x) far v w = v
 no-one-answer (geoid e) (shift f c d) (geoid x) far v w = w
 
-abbrev at-centre : ℤ → Family Fraction
-at-centre code = exact (pageOf code) (pos (pageOf code .latitude)) (pos (pageOf code .longitude))
+-- two codes, by one test of all pairs
+abbrev far : ℤ → ℤ → Bool
+far c d = eqb (natAbs c) (natAbs d) || all-apart (atCentre (pageOf c)) (atCentre (pageOf d))
 
-abbrev Apart : ℤ → ℤ → Type 0
-Apart c d = (c ≡ d → ⊥) → T (all-apart (at-centre c) (at-centre d))
+all-far : T (of-each (λ c. of-each (far c)))
+unfolding roundDiv exactOf _to-the_
+all-far = tt
 
-pub centres-apart : (c d : ℤ) → isCode c ≡ true → isCode d ≡ true → Apart c d
-unfolding exactOf _to-the_
-centres-apart c d h k =
-    six (λ x. (y : ℤ) → isCode y ≡ true → Apart x y)
-    (six (Apart (pos 1)) (λ n. absurd (n refl)) (λ n. tt) (λ n. tt) (λ n. tt) (λ n. tt) (λ n. tt))
-    (six (Apart (pos 2)) (λ n. tt) (λ n. absurd (n refl)) (λ n. tt) (λ n. tt) (λ n. tt) (λ n. tt))
-    (six (Apart (pos 3)) (λ n. tt) (λ n. tt) (λ n. absurd (n refl)) (λ n. tt) (λ n. tt) (λ n. tt))
-    (six (Apart (pos 4)) (λ n. tt) (λ n. tt) (λ n. tt) (λ n. absurd (n refl)) (λ n. tt) (λ n. tt))
-    (six (Apart (pos 5)) (λ n. tt) (λ n. tt) (λ n. tt) (λ n. tt) (λ n. absurd (n refl)) (λ n. tt))
-    (six (Apart (pos 6)) (λ n. tt) (λ n. tt) (λ n. tt) (λ n. tt) (λ n. tt) (λ n. absurd (n refl)))
-    c h d k
+pub centres-apart : (c d : ℤ) → isCode c ≡ true → isCode d ≡ true → (c ≡ d → ⊥) → T (all-apart (atCentre (pageOf c)) (atCentre (pageOf d)))
+centres-apart c d h k other = go (eqb (natAbs c) (natAbs d)) refl (each-code (far c) (each-code (λ c. of-each (far c)) all-far c h) d k)
+  where
+    same : natAbs c ≡ natAbs d → c ≡ d
+    same e =
+        let m = numbered c h .1 .1 in
+        let n = numbered d k .1 .1 in
+        m ∙ ap pos (sym (ap natAbs m) ∙ e ∙ ap natAbs n) ∙ sym n
+
+    go : (b : Bool) → eqb (natAbs c) (natAbs d) ≡ b → T (b || all-apart (atCentre (pageOf c)) (atCentre (pageOf d))) → T (all-apart (atCentre (pageOf c)) (atCentre (pageOf d)))
+    go true e t = absurd (other (same (eqb→eq (natAbs c) (natAbs d) (subst T (sym e) tt))))
+    go false e t = t

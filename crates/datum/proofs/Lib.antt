@@ -1,9 +1,7 @@
 -- The laws, by what they are about. Another crate cites them as `Rattle.datum.proofs.NAME`.
--- the six codes: the page and the family of each
+-- the codes: a law over each of them by one computed test, and the family of each
 pub mod Codes
--- a point in a frame: what each test says, and what the code worked out
-pub mod Places
--- a point's answer from its place
+-- a point's answer by its page
 pub mod Points
 -- what a call says of a code, by the page that the code has
 pub mod Calls

@@ -1,96 +1,92 @@
--- A point's answer from its place: of any page that keeps its limits. Assumes nothing.
+-- A point's answer by its page: what the tests say of it, and what three numbers say. Assumes nothing.
 use mathlib.Core.Path.{_≡_, refl, sym, ap, _∙_, subst, subst₂}
-use mathlib.Core.Bool.{Bool, true, false, _&&_}
+use mathlib.Core.Bool.{Bool, true, false, _&&_, false≢true}
 use mathlib.Core.List.{List}
-use Prim.Native.Nat.{ℕ, _≤_}
+use Prim.Native.Nat.{ℕ}
 use lib.Dec.{T}
-use lib.IntN.{ℤ, pos, negℤ, natAbs}
-use lib.Signed.{leZ}
-use Rattle.kinds.specs.Answer.{Answer, gives, refused, provided}
+use lib.IntN.{ℤ}
+use mir.Syntax.{w64}
+use mir.Val.{SFits, toZ, ofZ}
 use Rattle.whole.specs.Round.{scale}
-use Rattle.whole.proofs.Bools.{both, joined}
-use Rattle.kinds.specs.Kinds.{within, isLatitude, isLongitude, isFourBytes}
+use Rattle.whole.proofs.Bools.{joined}
+use Rattle.whole.proofs.Words.{of}
+use Rattle.kinds.specs.Answer.{Answer, gives, refused, provided, numberOf}
+use Rattle.kinds.specs.Kinds.{isPosition, isFourBytes}
+use Rattle.kinds.specs.declared.Refusal.{Refusal}
 use Rattle.kinds.proofs.Tested.{in-four-bytes}
-use Rattle.kinds.proofs.Ranges.{wider}
-use Rattle.kinds.proofs.Answers.{passed, same-value}
-use Rattle.equation.specs.Powers.{powersOf}
-use Rattle.equation.specs.Equation.{Term, equationOf}
-use Rattle.tables.specs.Page.{Page, Family, shift, geoid, each}
-use Rattle.tables.specs.Rule.{fromCentre, inArea, evaluated, powersU, powersV, worked}
-use Rattle.tables.specs.Tables.{areaInRange}
-use Rattle.tables.specs.Inside.{frameOf, AllFit}
-use Rattle.tables.proofs.Limits.{page-keeps, u-small, v-small, work}
-use Rattle.datum.specs.Point.{inRange, pointOf}
-use Rattle.datum.specs.Inside.{placeOf}
-
--- what is left to do with a place
-abbrev finished : Family (List Term) → Answer (ℤ × ℤ) → Answer (Family ℤ)
-finished equations (gives p) = gives (evaluated equations (powersOf scale (p .0) 10) (powersOf scale (p .1) 10))
-finished equations (refused n) = refused n
+use Rattle.equation.specs.Equation.{equationOf}
+use Rattle.tables.specs.Page.{Page, Equation, Family, shift, geoid, isShift, each}
+use Rattle.tables.specs.Rule.{inBox, inArea, evaluated, powersU, powersV, worked}
+use Rattle.tables.specs.Inside.{Say, Fits, AllFit}
+use Rattle.tables.specs.declared.Values.{Values}
+use Rattle.tables.proofs.Limits.{page-keeps, all-fit}
+use Rattle.datum.specs.Point.{pointOf}
+use Rattle.datum.specs.Inside.{SayAnswer}
+use Rattle.datum.specs.declared.ValuesAnswer.{ValuesAnswer}
+use Rattle.datum.specs.declared.ValuesAnswer.the-variants.{Gives, Refused}
 
 module _ (page : Page) (latitude longitude : ℤ) where
-  abbrev u : ℤ
-  u = fromCentre (pos (page .k)) (pos (page .latitude)) latitude
+  -- ---- by the tests, in the order of the code
+  abbrev by : Bool → Bool → Answer (Family ℤ)
+  by a b = provided a 3 (provided (a && b) 6 (gives (worked page latitude longitude)))
 
-  abbrev v : ℤ
-  v = fromCentre (pos (page .k)) (pos (page .longitude)) longitude
+  pub out-of-range : isPosition latitude longitude ≡ false → pointOf page latitude longitude ≡ refused 3
+  out-of-range e = λ i. by (e i) (inBox page latitude longitude)
 
-  by-place : finished (page .equations) (placeOf (frameOf page) latitude longitude) ≡ pointOf page latitude longitude
-  by-place = go (inRange latitude longitude) (inArea page latitude longitude)
+  module _ (ranged : isPosition latitude longitude ≡ true) where
+    pub out-of-box : inBox page latitude longitude ≡ false → pointOf page latitude longitude ≡ refused 6
+    out-of-box e = λ i. by (ranged i) (e i)
+
+    pub in-box : inBox page latitude longitude ≡ true → pointOf page latitude longitude ≡ gives (worked page latitude longitude)
+    in-box e = λ i. by (ranged i) (e i)
+
+  -- ---- by the three numbers, or the refusal, that say it
+  -- as the code has them, which reads a raw number back from its word, and finds the case
+  pub there : (r case : ValuesAnswer) → SFits w64 latitude → SFits w64 longitude → r ≡ case → SayAnswer r (pointOf page (toZ w64 (ofZ w64 latitude)) (toZ w64 (ofZ w64 longitude))) → SayAnswer case (pointOf page latitude longitude)
+  there r case f g e s =
+      subst (λ (x : ValuesAnswer). SayAnswer x (pointOf page latitude longitude)) e
+      (subst₂ (λ (x y : ℤ). SayAnswer r (pointOf page x y)) (of f .reads) (of g .reads) s)
+
+  pub why-said : (why : Refusal) → SayAnswer (Refused why) (pointOf page latitude longitude) → refused (numberOf why) ≡ pointOf page latitude longitude
+  why-said why = go (pointOf page latitude longitude)
     where
-      go : (a b : Bool) → finished (page .equations) (provided a 3 (provided b 6 (gives (u, v)))) ≡ provided a 3 (provided b 6 (gives (worked page latitude longitude)))
-      go true true = refl
-      go true false = refl
-      go false b = refl
+      go : (a : Answer (Family ℤ)) → SayAnswer (Refused why) a → refused (numberOf why) ≡ a
+      go (gives values) s = absurd s
+      go (refused n) s = ap refused s
 
-  pub not-placed : {n : ℕ} → placeOf (frameOf page) latitude longitude ≡ refused n → refused n ≡ pointOf page latitude longitude
-  not-placed e = ap (finished (page .equations)) (sym e) ∙ by-place
+  values-said : (v : Values) (values : Family ℤ) → (Say v (worked page latitude longitude) → values ≡ worked page latitude longitude)
+      → SayAnswer (Gives v) (pointOf page latitude longitude) → gives values ≡ pointOf page latitude longitude
+  values-said v values f = go (isPosition latitude longitude) (inArea page latitude longitude)
+    where
+      go : (a b : Bool) → SayAnswer (Gives v) (provided a 3 (provided b 6 (gives (worked page latitude longitude)))) → gives values ≡ provided a 3 (provided b 6 (gives (worked page latitude longitude)))
+      go true true s = ap gives (f s)
+      go true false s = absurd s
+      go false b s = absurd s
 
-  module _ {x y : ℤ} (e : placeOf (frameOf page) latitude longitude ≡ gives (x, y)) where
-    inside : (inArea page latitude longitude ≡ true) × _≡_ {A = ℤ × ℤ} (u, v) (x, y)
-    inside =
-        let a = passed (inRange latitude longitude) 3 (provided (inArea page latitude longitude) 6 (gives (u, v))) e in
-        let b = passed (inArea page latitude longitude) 6 (gives (u, v)) (a .1) in
-        (b .0, same-value (b .1))
+  pub shift-said : (v : Values) → isShift (page .equations) ≡ true → SayAnswer (Gives v) (pointOf page latitude longitude) → gives (shift (v .first) (v .second) (v .third)) ≡ pointOf page latitude longitude
+  shift-said v h = values-said v (shift (v .first) (v .second) (v .third)) (go (page .equations) h)
+    where
+      go : (e : Family Equation) → isShift e ≡ true → Say v (evaluated e (powersU page latitude) (powersV page longitude)) → shift (v .first) (v .second) (v .third) ≡ evaluated e (powersU page latitude) (powersV page longitude)
+      go (shift a b c) h s = λ i. shift (s .0 i) (s .1 i) (s .2 i)
+      go (geoid n) h s = absurd (false≢true h)
 
-    module _ (h : T (page-keeps page)) where
-      pub x-asks : natAbs x ≤ 1000000000
-      x-asks = subst (λ (p : ℤ × ℤ). natAbs (p .0) ≤ 1000000000) (inside .1) (u-small page latitude longitude (inside .0) h)
+  pub geoid-said : (v : Values) → isShift (page .equations) ≡ false → SayAnswer (Gives v) (pointOf page latitude longitude) → gives (geoid (v .first)) ≡ pointOf page latitude longitude
+  geoid-said v h = values-said v (geoid (v .first)) (go (page .equations) h)
+    where
+      go : (e : Family Equation) → isShift e ≡ false → Say v (evaluated e (powersU page latitude) (powersV page longitude)) → geoid (v .first) ≡ evaluated e (powersU page latitude) (powersV page longitude)
+      go (geoid n) h s = ap geoid (s .0)
+      go (shift a b c) h s = absurd (false≢true (sym h))
 
-      pub y-asks : natAbs y ≤ 1000000000
-      y-asks = subst (λ (p : ℤ × ℤ). natAbs (p .1) ≤ 1000000000) (inside .1) (v-small page latitude longitude (inside .0) h)
+-- ---- each of a point's values is in 4 bytes
+of-family : (equations : Family Equation) (pu pv : List ℤ) → AllFit equations pu pv → each isFourBytes (evaluated equations pu pv) ≡ true
+of-family equations pu pv = go equations
+  where
+    held : (e : Equation) → Fits (e .divisor) (e .terms) pu pv → isFourBytes (equationOf (e .divisor) (e .terms) pu pv) ≡ true
+    held e f = in-four-bytes (equationOf (e .divisor) (e .terms) pu pv) (f .fits)
 
-      module _ {pu pv : List ℤ} (d : pu ≡ powersOf scale x 10) (q : pv ≡ powersOf scale y 10) where
-        pub work-asks : AllFit (page .equations) pu pv
-        work-asks =
-            subst₂ (AllFit (page .equations)) (sym d) (sym q)
-            (subst (λ (p : ℤ × ℤ). AllFit (page .equations) (powersOf scale (p .0) 10) (powersOf scale (p .1) 10)) (inside .1) (work page latitude longitude (inside .0) h))
+    go : (equations : Family Equation) → AllFit equations pu pv → each isFourBytes (evaluated equations pu pv) ≡ true
+    go (shift a b c) f = joined (held a (f .0)) (joined (held b (f .1)) (held c (f .2)))
+    go (geoid n) f = held n f
 
-        pub answered : {values : Family ℤ} → values ≡ evaluated (page .equations) pu pv → gives values ≡ pointOf page latitude longitude
-        answered k = ap gives (k ∙ (λ i. evaluated (page .equations) (d i) (q i))) ∙ ap (finished (page .equations)) (sym e) ∙ by-place
-
--- each of a point's values is in 4 bytes
-of-family : (equations : Family (List Term)) (pu pv : List ℤ) → AllFit equations pu pv → each isFourBytes (evaluated equations pu pv) ≡ true
-of-family (shift dLat dLon dH) pu pv w =
-    joined (in-four-bytes (equationOf scale dLat pu pv) (w .0 .fits))
-    (joined (in-four-bytes (equationOf scale dLon pu pv) (w .1 .fits)) (in-four-bytes (equationOf scale dH pu pv) (w .2 .fits)))
-of-family (geoid n) pu pv w = in-four-bytes (equationOf scale n pu pv) (w .fits)
-
-pub fit : (page : Page) → T (page-keeps page) → (latitude longitude : ℤ) → inArea page latitude longitude ≡ true → each isFourBytes (worked page latitude longitude) ≡ true
-fit page h latitude longitude inside = of-family (page .equations) (powersU page latitude) (powersV page longitude) (work page latitude longitude inside h)
-
--- a point of an area that lies in the range of positions is in that range
-module _ (page : Page) (latitude longitude : ℤ) where
-  in-between : (least largest a b x : ℤ) → within least largest a ≡ true → within least largest b ≡ true → within a b x ≡ true → within least largest x ≡ true
-  in-between least largest a b x h k =
-      wider a b least largest x (both (leZ least a) (leZ a largest) h .0) (both (leZ least b) (leZ b largest) k .1)
-
-  pub in-range : areaInRange page ≡ true → inArea page latitude longitude ≡ true → inRange latitude longitude ≡ true
-  in-range h inside =
-      let ends = both (isLatitude (pos (page .south)) && isLatitude (pos (page .north))) (isLongitude (pos (page .west)) && isLongitude (pos (page .east))) h in
-      let north = both (isLatitude (pos (page .south))) (isLatitude (pos (page .north))) (ends .0) in
-      let east = both (isLongitude (pos (page .west))) (isLongitude (pos (page .east))) (ends .1) in
-      let both-in = both (within (pos (page .south)) (pos (page .north)) latitude) (within (pos (page .west)) (pos (page .east)) longitude) inside in
-      joined
-      (in-between (negℤ (pos 324000000)) (pos 324000000) (pos (page .south)) (pos (page .north)) latitude (north .0) (north .1) (both-in .0))
-      (in-between (pos 0) (pos 1295999999) (pos (page .west)) (pos (page .east)) longitude (east .0) (east .1) (both-in .1))
+pub fit : (page : Page) → T (page-keeps page) → (latitude longitude : ℤ) → inBox page latitude longitude ≡ true → each isFourBytes (worked page latitude longitude) ≡ true
+fit page h latitude longitude inside = of-family (page .equations) (powersU page latitude) (powersV page longitude) (all-fit page h latitude longitude inside)

@@ -1,27 +1,32 @@
 -- Document 01, 'The working rule', last paragraph: the exact values of a point; and demand 3, how near the answer is to them.
-use mathlib.Core.List.{List, [], _∷_}
-use Prim.Native.Nat.{ℕ}
+use Prim.Native.Nat.{ℕ, _*_}
 use lib.IntN.{ℤ, pos, _-ℤ_, _*ℤ_}
-use lib.ListN.{getD}
-use Rattle.equation.specs.Equation.{Term}
-use Rattle.equation.specs.Exact.{Fraction, _over_, exactOf, Within}
-use Rattle.tables.specs.Page.{Page, Family, shift, geoid, ofEach, OfShift, OfGeoid}
-use Rattle.datum.specs.Point.{row}
+use Rattle.whole.specs.Round.{roundDiv, scale}
+use Rattle.equation.specs.Exact.{Fraction, _over_, _times_, exactOf, Within}
+use Rattle.tables.specs.Page.{Page, Axis, Equation, Family, shift, geoid, Kind, angle, height, kindsOf, ofEach, OfShift, OfGeoid}
+use Rattle.tables.specs.Rule.{longitudeOn}
+use Rattle.datum.specs.Point.{pageOf}
 
 -- ---- the exact values
--- exact U is the tabled K times the latitude difference in ms, over 360,000,000,000,000; exact V likewise
-abbrev pub exactFrom : ℤ → ℤ → ℤ → Fraction
-exactFrom k centre x = (k *ℤ (x -ℤ centre)) over 360000000000000
+-- exact U is what is rounded to u, over the scale: K times the latitude difference in ms, over 360,000,000,000,000; exact V
+-- likewise
+abbrev pub exactAlong : Axis → ℤ → Fraction
+exactAlong axis x = (pos (axis .factor) *ℤ x -ℤ axis .offset) over (axis .divisor * scale)
 
--- each printed polynomial at exact U and V, in the units of the answer
-abbrev pub polynomials : Family (List Term) → Fraction → Fraction → Family Fraction
-polynomials equations exactU exactV = ofEach (λ terms. exactOf terms exactU exactV) equations
+-- the printed polynomial at exact U and V, in the units of the answer, into which the scale over the last divisor carries it
+abbrev pub exactAt : Fraction → Fraction → Equation → Fraction
+exactAt exactU exactV e = exactOf (e .terms) exactU exactV times (pos scale over (e .divisor))
 
 abbrev pub exact : Page → ℤ → ℤ → Family Fraction
 exact page latitude longitude =
-    polynomials (page .equations)
-    (exactFrom (pos (page .k)) (pos (page .latitude)) latitude)
-    (exactFrom (pos (page .k)) (pos (page .longitude)) longitude)
+    ofEach (exactAt (exactAlong (page .u) latitude) (exactAlong (page .v) (longitudeOn page longitude))) (page .equations)
+
+-- the centre of an axis, to the nearest ms: where u or v is zero
+abbrev pub centre : Axis → ℤ
+centre axis = roundDiv (axis .offset) (axis .factor)
+
+abbrev pub atCentre : Page → Family Fraction
+atCentre page = exact page (centre (page .u)) (centre (page .v))
 
 -- ---- how near
 -- each value is as near to its exact value as its bound says
@@ -35,20 +40,13 @@ abbrev pub AllWithin : ℕ → Family ℕ → Family Fraction → Family ℤ →
 AllWithin n = AllNear (λ h exact value. Within h n exact value)
 
 -- demand 3, in units: two for each angle and one for each height
+abbrev pub allowed : Kind → ℕ
+allowed angle = 2
+allowed height = 1
+
 abbrev pub demanded : {A : Type 0} → Family A → Family ℕ
-demanded (shift a b c) = shift 2 2 1
-demanded (geoid n) = geoid 1
+demanded values = ofEach allowed (kindsOf values)
 
--- what is proved, from which it follows: the bound of each equation, in thousandths of a unit, code by code
-abbrev pub bounds : List (Family ℕ)
-bounds =
-    shift 501 508 514
-    ∷ shift 1252 527 510
-    ∷ shift 538 835 505
-    ∷ shift 504 537 503
-    ∷ geoid 504
-    ∷ geoid 501
-    ∷ []
-
+-- what is proved, from which it follows: the bound of each equation, in thousandths of a unit
 abbrev pub boundsOf : ℤ → Family ℕ
-boundsOf code = getD bounds (row code) (geoid 0)
+boundsOf code = ofEach (λ e. e .bound) (pageOf code .equations)

@@ -1,31 +1,22 @@
--- What is private to the crate: its own enums and structs, and what its functions ask of each other. No promise to a user
--- speaks of it.
-use mathlib.Core.Bool.{_&&_}
+-- What is private to the crate: its own enums, and what its functions tell each other. No promise to a user speaks of it.
+use mathlib.Core.Path.{_≡_}
 use lib.IntN.{ℤ}
-use Rattle.kinds.specs.Answer.{Answer, gives, refused, provided, numberOf}
-use Rattle.kinds.specs.Kinds.{within, isLatitude, isLongitude}
-use Rattle.tables.specs.Page.{Page}
-use Rattle.tables.specs.Rule.{fromCentre}
-use Rattle.tables.specs.Inside.{shiftPage, geoidPage}
-use Rattle.tables.specs.declared.Frame.{Frame}
-use Rattle.datum.specs.declared.Datum.{Datum}
-use Rattle.datum.specs.declared.Datum.the-variants as Datum
-use Rattle.datum.specs.declared.PlaceAnswer.{PlaceAnswer}
-use Rattle.datum.specs.declared.PlaceAnswer.the-variants as Place
+use Rattle.kinds.specs.Answer.{Answer, gives, refused, numberOf}
+use Rattle.tables.specs.Page.{Page, Family}
+use Rattle.tables.specs.Inside.{datumPage, Say}
+use Rattle.datum.specs.declared.DatumAnswer.{DatumAnswer}
+use Rattle.datum.specs.declared.DatumAnswer.the-variants as Datum
+use Rattle.datum.specs.declared.ValuesAnswer.{ValuesAnswer}
+use Rattle.datum.specs.declared.ValuesAnswer.the-variants as Values
 
 -- the page of a code's datum
-abbrev pub datumPage : Datum → Answer Page
-datumPage (Datum.Shift d) = gives (shiftPage d)
-datumPage (Datum.Geoid d) = gives (geoidPage d)
-datumPage Datum.Unknown = refused 4
+abbrev pub datumAnswer : DatumAnswer → Answer Page
+datumAnswer (Datum.Gives d) = gives (datumPage d)
+datumAnswer Datum.Unknown = refused 4
 
--- where a point stands: u and v, or 3, or 6
-abbrev pub placeOf : Frame → ℤ → ℤ → Answer (ℤ × ℤ)
-placeOf frame latitude longitude =
-    provided (isLatitude latitude && isLongitude longitude) 3
-    (provided (within (frame .south) (frame .north) latitude && within (frame .west) (frame .east) longitude) 6
-    (gives (fromCentre (frame .k) (frame .latitude) latitude, fromCentre (frame .k) (frame .longitude) longitude)))
-
-abbrev pub placeAnswer : PlaceAnswer → Answer (ℤ × ℤ)
-placeAnswer (Place.Gives p) = gives (p .u .0, p .v .0)
-placeAnswer (Place.Refused r) = refused (numberOf r)
+-- three numbers say the values, or the refusal is the one that is given
+abbrev pub SayAnswer : ValuesAnswer → Answer (Family ℤ) → Type 0
+SayAnswer (Values.Gives v) (gives values) = Say v values
+SayAnswer (Values.Gives v) (refused n) = ⊥
+SayAnswer (Values.Refused r) (gives values) = ⊥
+SayAnswer (Values.Refused r) (refused n) = numberOf r ≡ n

@@ -1,13 +1,12 @@
 -- Document 01, 'The six areas' and 'Refusal numbers': the answer of a point.
-use mathlib.Core.Bool.{Bool, _&&_}
+use mathlib.Core.Bool.{Bool}
 use mathlib.Core.List.{List, [], _∷_}
 use Prim.Native.Nat.{ℕ, _-_}
 use lib.IntN.{ℤ, pos, natAbs}
 use lib.ListN.{getD}
 use Rattle.kinds.specs.Answer.{Answer, gives, refused, Test, _else_, inOrder}
-use Rattle.kinds.specs.Kinds.{within, isLatitude, isLongitude}
-use Rattle.equation.specs.Equation.{Term}
-use Rattle.tables.specs.Page.{Page, Family, shift, geoid, isShift, isGeoid, isEither}
+use Rattle.kinds.specs.Kinds.{within, isPosition}
+use Rattle.tables.specs.Page.{Page, Equation, Family, shift, geoid, isShift, isGeoid, isEither}
 use Rattle.tables.specs.Cyprus.{cyprus}
 use Rattle.tables.specs.Rule.{inArea, worked}
 use Rattle.tables.specs.Tables.{pages}
@@ -25,13 +24,10 @@ abbrev pub pageOf : ℤ → Page
 pageOf code = getD pages (row code) cyprus
 
 -- ---- the answer
-abbrev pub inRange : ℤ → ℤ → Bool
-inRange latitude longitude = isLatitude latitude && isLongitude longitude
-
 -- of a datum
 abbrev pub pointTests : Page → ℤ → ℤ → List Test
 pointTests page latitude longitude =
-    (inRange latitude longitude else 3)
+    (isPosition latitude longitude else 3)
     ∷ (inArea page latitude longitude else 6)
     ∷ []
 
@@ -39,13 +35,13 @@ abbrev pub pointOf : Page → ℤ → ℤ → Answer (Family ℤ)
 pointOf page latitude longitude = inOrder (pointTests page latitude longitude) (gives (worked page latitude longitude))
 
 -- of a code, asked of a family: 'Order for a point: 4, 5, 3, 6'
-abbrev pub tests : (Family (List Term) → Bool) → ℤ → ℤ → ℤ → List Test
+abbrev pub tests : (Family Equation → Bool) → ℤ → ℤ → ℤ → List Test
 tests family code latitude longitude =
     (isCode code else 4)
     ∷ (family (pageOf code .equations) else 5)
     ∷ pointTests (pageOf code) latitude longitude
 
-abbrev pub asked : (Family (List Term) → Bool) → ℤ → ℤ → ℤ → Answer (Family ℤ)
+abbrev pub asked : (Family Equation → Bool) → ℤ → ℤ → ℤ → Answer (Family ℤ)
 asked family code latitude longitude = inOrder (tests family code latitude longitude) (gives (worked (pageOf code) latitude longitude))
 
 abbrev pub shiftOf : ℤ → ℤ → ℤ → Answer (Family ℤ)

@@ -1,29 +1,41 @@
 // The six codes: the shift or the geoid height of a point, by the tables of its datum.
 use equation::powers;
+use kinds::AngleShift;
 use kinds::Height;
 use kinds::HeightAnswer;
-use kinds::LocalLatitude;
-use kinds::LocalLatitudeAnswer;
-use kinds::LocalLongitude;
-use kinds::LocalLongitudeAnswer;
+use kinds::LocalPosition;
+use kinds::LocalPositionAnswer;
 use kinds::Refusal;
 use kinds::within;
-use tables::Frame;
-use tables::GeoidDatum;
-use tables::ShiftDatum;
-pub use tables::Shifts;
-use whole::Parts;
+use tables::Datum;
+use tables::Values;
 ghost use mathlib.Core.Path.{_≡_};
-ghost use mathlib.Core.Bool.{_&&_};
-ghost use Prim.Native.Nat.{_≤_};
-ghost use lib.IntN.{natAbs};
 ghost use Rattle.kinds.specs.Answer.{gives, provided};
-ghost use Rattle.kinds.specs.Kinds.{within};
-ghost use Rattle.tables.specs.Rule.{fromCentre};
-ghost use Rattle.tables.specs.Inside.{shiftPage, geoidPage, Close};
+ghost use Rattle.tables.specs.Page.{shift};
+ghost use Rattle.tables.specs.Inside.{datumPage};
 ghost use Rattle.datum.specs.Point.{isCode, pageOf, pointOf, answerOf, shiftOf, geoidOf};
-ghost use Rattle.datum.specs.Cases.{shiftAnswer, geoidAnswer, pointAnswer};
-ghost use Rattle.datum.specs.Inside.{datumPage, placeOf, placeAnswer};
+ghost use Rattle.datum.specs.Cases.{shiftSays, shiftAnswer, geoidAnswer, pointAnswer};
+ghost use Rattle.datum.specs.Inside.{datumAnswer, SayAnswer};
+
+// The shifts of a point from its local datum to WGS 84.
+pub struct Shifts {
+    pub latitude: AngleShift,
+    pub longitude: AngleShift,
+    pub height: Height,
+}
+
+impl Shifts {
+    // Three numbers, each as the kind that it is.
+    fn of(values: Values) -> Shifts
+        ensures { λ r. ⌜ shiftSays r ≡ shift (values .first) (values .second) (values .third) ⌝ }
+    {
+        Shifts {
+            latitude: AngleShift::of(values.first),
+            longitude: AngleShift::of(values.second),
+            height: Height::of(values.third),
+        }
+    }
+}
 
 pub enum ShiftAnswer {
     Gives(Shifts),
@@ -43,10 +55,16 @@ pub enum PointAnswer {
 pub fn shift(code: i64, latitude: i64, longitude: i64) -> ShiftAnswer
     ensures { λ r. ⌜ shiftAnswer r ≡ shiftOf code latitude longitude ⌝ }
 {
-    match Datum::of(code) {
-        Datum::Shift(datum) => shift_at(datum, latitude, longitude),
-        Datum::Geoid(_) => ShiftAnswer::Refused(Refusal::Family),
-        Datum::Unknown => ShiftAnswer::Refused(Refusal::Code),
+    let DatumAnswer::Gives(datum) = coded(code) else {
+        return ShiftAnswer::Refused(Refusal::Code);
+    };
+    let frame = datum.frame();
+    if frame.geoid {
+        return ShiftAnswer::Refused(Refusal::Family);
+    }
+    match point(datum, latitude, longitude) {
+        ValuesAnswer::Gives(values) => ShiftAnswer::Gives(Shifts::of(values)),
+        ValuesAnswer::Refused(why) => ShiftAnswer::Refused(why),
     }
 }
 
@@ -55,10 +73,16 @@ pub fn shift(code: i64, latitude: i64, longitude: i64) -> ShiftAnswer
 pub fn geoid(code: i64, latitude: i64, longitude: i64) -> HeightAnswer
     ensures { λ r. ⌜ geoidAnswer r ≡ geoidOf code latitude longitude ⌝ }
 {
-    match Datum::of(code) {
-        Datum::Shift(_) => HeightAnswer::Refused(Refusal::Family),
-        Datum::Geoid(datum) => geoid_at(datum, latitude, longitude),
-        Datum::Unknown => HeightAnswer::Refused(Refusal::Code),
+    let DatumAnswer::Gives(datum) = coded(code) else {
+        return HeightAnswer::Refused(Refusal::Code);
+    };
+    let frame = datum.frame();
+    if !frame.geoid {
+        return HeightAnswer::Refused(Refusal::Family);
+    }
+    match point(datum, latitude, longitude) {
+        ValuesAnswer::Gives(values) => HeightAnswer::Gives(Height::of(values.first)),
+        ValuesAnswer::Refused(why) => HeightAnswer::Refused(why),
     }
 }
 
@@ -66,113 +90,68 @@ pub fn geoid(code: i64, latitude: i64, longitude: i64) -> HeightAnswer
 pub fn answer(code: i64, latitude: i64, longitude: i64) -> PointAnswer
     ensures { λ r. ⌜ pointAnswer r ≡ answerOf code latitude longitude ⌝ }
 {
-    match Datum::of(code) {
-        Datum::Shift(datum) => match shift_at(datum, latitude, longitude) {
-            ShiftAnswer::Gives(shifts) => PointAnswer::Shift(shifts),
-            ShiftAnswer::Refused(why) => PointAnswer::Refused(why),
-        },
-        Datum::Geoid(datum) => match geoid_at(datum, latitude, longitude) {
-            HeightAnswer::Gives(height) => PointAnswer::Geoid(height),
-            HeightAnswer::Refused(why) => PointAnswer::Refused(why),
-        },
-        Datum::Unknown => PointAnswer::Refused(Refusal::Code),
+    let DatumAnswer::Gives(datum) = coded(code) else {
+        return PointAnswer::Refused(Refusal::Code);
+    };
+    match point(datum, latitude, longitude) {
+        ValuesAnswer::Gives(values) => {
+            let frame = datum.frame();
+            if frame.geoid {
+                PointAnswer::Geoid(Height::of(values.first))
+            } else {
+                PointAnswer::Shift(Shifts::of(values))
+            }
+        }
+        ValuesAnswer::Refused(why) => PointAnswer::Refused(why),
     }
 }
 
-// A code's datum, by family.
-enum Datum {
-    Shift(ShiftDatum),
-    Geoid(GeoidDatum),
+// In the order of the codes.
+const DATUMS: [Datum; 6] = [
+    Datum::Cyprus,
+    Datum::Minna,
+    Datum::Alaska,
+    Datum::Qatar,
+    Datum::Kandawala,
+    Datum::Nahrwan,
+];
+
+enum DatumAnswer {
+    Gives(Datum),
     Unknown,
 }
 
-impl Datum {
-    // The one place where a code is tested.
-    fn of(code: i64) -> Datum
-        ensures { λ r. ⌜ datumPage r ≡ provided (isCode code) 4 (gives (pageOf code)) ⌝ }
-    {
-        match code {
-            1 => Datum::Shift(ShiftDatum::Cyprus),
-            2 => Datum::Shift(ShiftDatum::Minna),
-            3 => Datum::Shift(ShiftDatum::Alaska),
-            4 => Datum::Shift(ShiftDatum::Qatar),
-            5 => Datum::Geoid(GeoidDatum::Kandawala),
-            6 => Datum::Geoid(GeoidDatum::Nahrwan),
-            _ => Datum::Unknown,
-        }
-    }
-}
-
-fn shift_at(datum: ShiftDatum, latitude: i64, longitude: i64) -> ShiftAnswer
-    ensures { λ r. ⌜ shiftAnswer r ≡ pointOf (shiftPage datum) latitude longitude ⌝ }
+// The one place where a code is tested.
+fn coded(code: i64) -> DatumAnswer
+    ensures { λ r. ⌜ datumAnswer r ≡ provided (isCode code) 4 (gives (pageOf code)) ⌝ }
 {
-    match placed(datum.frame(), latitude, longitude) {
-        PlaceAnswer::Gives(place) => {
-            let pu = powers(place.u);
-            let pv = powers(place.v);
-            ShiftAnswer::Gives(datum.evaluated(pu, pv))
-        }
-        PlaceAnswer::Refused(why) => ShiftAnswer::Refused(why),
+    if within(1, 6, code) {
+        let row = (code - 1) as usize;
+        let datum = DATUMS[row];
+        DatumAnswer::Gives(datum)
+    } else {
+        DatumAnswer::Unknown
     }
 }
 
-fn geoid_at(datum: GeoidDatum, latitude: i64, longitude: i64) -> HeightAnswer
-    ensures { λ r. ⌜ geoidAnswer r ≡ pointOf (geoidPage datum) latitude longitude ⌝ }
-{
-    match placed(datum.frame(), latitude, longitude) {
-        PlaceAnswer::Gives(place) => {
-            let pu = powers(place.u);
-            let pv = powers(place.v);
-            HeightAnswer::Gives(datum.evaluated(pu, pv))
-        }
-        PlaceAnswer::Refused(why) => HeightAnswer::Refused(why),
-    }
-}
-
-// A point by its distance from the centre.
-struct Place {
-    u: Parts,
-    v: Parts,
-}
-
-enum PlaceAnswer {
-    Gives(Place),
+enum ValuesAnswer {
+    Gives(Values),
     Refused(Refusal),
 }
 
-// Where a point stands; refused with 3 out of range, and with 6 outside the area.
-fn placed(frame: Frame, latitude: i64, longitude: i64) -> PlaceAnswer
-    requires { ⌜ Close frame ⌝ }
-    ensures { λ r. ⌜ placeAnswer r ≡ placeOf frame latitude longitude ⌝ }
+// What a datum gives for a point; refused with 3 out of range, and with 6 outside the area.
+fn point(datum: Datum, latitude: i64, longitude: i64) -> ValuesAnswer
+    ensures { λ r. ⌜ SayAnswer r (pointOf (datumPage datum) latitude longitude) ⌝ }
 {
-    let LocalLatitudeAnswer::Gives(local_latitude) = LocalLatitude::new(latitude) else {
-        return PlaceAnswer::Refused(Refusal::Range);
+    let LocalPositionAnswer::Gives(position) = LocalPosition::new(latitude, longitude) else {
+        return ValuesAnswer::Refused(Refusal::Range);
     };
-    let LocalLongitudeAnswer::Gives(local_longitude) = LocalLongitude::new(longitude) else {
-        return PlaceAnswer::Refused(Refusal::Range);
-    };
-    if holds(frame, local_latitude, local_longitude) {
-        PlaceAnswer::Gives(Place {
-            u: from_centre(frame.k, frame.latitude, local_latitude.ms()),
-            v: from_centre(frame.k, frame.longitude, local_longitude.ms()),
-        })
+    let frame = datum.frame();
+    if frame.holds(position) {
+        let pu = powers(frame.u_of(position));
+        let pv = powers(frame.v_of(position));
+        ValuesAnswer::Gives(datum.values(pu, pv))
     } else {
-        PlaceAnswer::Refused(Refusal::Area)
+        ValuesAnswer::Refused(Refusal::Area)
     }
-}
-
-// Whether a point is in the area, both ends in.
-fn holds(frame: Frame, latitude: LocalLatitude, longitude: LocalLongitude) -> bool
-    ensures { λ r. ⌜ r ≡ within (frame .south) (frame .north) (latitude .0) && within (frame .west) (frame .east) (longitude .0) ⌝ }
-{
-    within(frame.south, frame.north, latitude.ms() as i64)
-        & within(frame.west, frame.east, longitude.ms() as i64)
-}
-
-// K times the distance from the centre, over the ms of a degree, rounded.
-fn from_centre(k: i64, centre: i64, ms: i32) -> Parts
-    requires { ⌜ (natAbs k ≤ 1000000000) × (natAbs centre ≤ 2000000000) ⌝ }
-    ensures { λ r. ⌜ r .0 ≡ fromCentre k centre ms ⌝ }
-{
-    Parts(whole::round_div(k * (ms as i64 - centre), LocalLatitude::DEGREE))
 }

@@ -32,16 +32,16 @@ pub any-order : (divisor : ℕ) {ts ss : List Term} → Perm ts ss → (pu pv : 
 any-order divisor p pu pv = ∥∥₁-elim p (ℤ-set _ _) (λ d. ap (λ (x : ℤ). roundDiv x divisor) (sum-any-order pu pv d))
 
 -- ---- 'Ways to get it wrong'
-pub record Worked : Type 0 where
+pub record Examples : Type 0 where
   -- the fourth power of document 01's u, and the square of its square
   pub fourth : power scale (pos 39269908) 4 ≡ pos 2378151
   pub not-by-squaring : roundDiv (power scale (pos 39269908) 2 *ℤ power scale (pos 39269908) 2) 100000000 ≡ pos 2378152
   -- two terms of 0.4 unit come to 1 unit, though each by itself is rounded to none
   pub summed-first : equationOf scale (term (pos 1) 1 0 ∷ term (pos 1) 1 0 ∷ []) (powersOf scale (pos 40000000) 10) (powersOf scale (pos 0) 10) ≡ pos 1
 
-pub worked : Worked
+pub examples : Examples
 unfolding roundDiv power powersOf sum
-worked = record { fourth = refl; not-by-squaring = refl; summed-first = refl }
+examples = record { fourth = refl; not-by-squaring = refl; summed-first = refl }
 
 -- ---- 'The exact value for demand 3'
 pub record Exact : Type 0 where

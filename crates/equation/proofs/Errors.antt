@@ -12,6 +12,7 @@ use lib.Dec.{T, leb, leb→le, le→leb, ltb, ltb→lt, lit<}
 use lib.IntN.{ℤ, pos, natAbs, _*ℤ_, *ℤ-comm}
 use mir.Facts.{and-yes}
 use Rattle.whole.specs.Round.{roundDiv, scale}
+use Rattle.whole.proofs.Bools.{three}
 use Rattle.whole.proofs.Rounding.{round-exact}
 use Rattle.equation.specs.Powers.{power, powersOf}
 use Rattle.equation.specs.Equation.{Term, term, amongTen, product, sum}
@@ -49,22 +50,22 @@ module _ (s fine : ℕ) where
   sum-error mu mv (term c i j ∷ ts) = natAbs c * term-error mu mv i j + sum-error mu mv ts
 
   -- no divisor is zero
-  abbrev divisors : ℕ → ℕ → Bool
-  divisors d divisor = (ltb 0 s && ltb 0 fine) && (ltb 0 d && ltb 0 divisor)
+  abbrev divisors : ℕ → ℕ → ℕ → Bool
+  divisors du dv divisor = (ltb 0 s && ltb 0 fine) && (ltb 0 du && (ltb 0 dv && ltb 0 divisor))
 
   -- half a unit for the last rounding and the error of the sum are at most h nths of a unit
   abbrev at-most : ℕ → ℕ → ℕ → ℕ → ℕ → List Term → Bool
   at-most divisor mu mv h n ts = leb (n * (fine * divisor + 2 * sum-error mu mv ts)) (2 * divisor * h * fine)
 
-  abbrev pub bounded : ℕ → ℕ → ℕ → ℕ → ℕ → ℕ → List Term → Bool
-  bounded d divisor mu mv h n ts = divisors d divisor && (in-ten ts && at-most divisor mu mv h n ts)
+  abbrev pub bounded : ℕ → ℕ → ℕ → ℕ → ℕ → ℕ → ℕ → List Term → Bool
+  bounded du dv divisor mu mv h n ts = divisors du dv divisor && (in-ten ts && at-most divisor mu mv h n ts)
 
 -- what passes with a bound passes with a larger one
-pub bounded-wider : (s fine d divisor mu mv n : ℕ) {g h : ℕ} (ts : List Term) → g ≤ h → T (bounded s fine d divisor mu mv g n ts) → T (bounded s fine d divisor mu mv h n ts)
-bounded-wider s fine d divisor mu mv n {g} {h} ts l test =
-    let t = and-yes (divisors s fine d divisor) (in-ten ts && at-most s fine divisor mu mv g n ts) test in
+pub bounded-wider : (s fine du dv divisor mu mv n : ℕ) {g h : ℕ} (ts : List Term) → g ≤ h → T (bounded s fine du dv divisor mu mv g n ts) → T (bounded s fine du dv divisor mu mv h n ts)
+bounded-wider s fine du dv divisor mu mv n {g} {h} ts l test =
+    let t = and-yes (divisors s fine du dv divisor) (in-ten ts && at-most s fine divisor mu mv g n ts) test in
     let r = and-yes (in-ten ts) (at-most s fine divisor mu mv g n ts) (t .1) in
-    joined (divisors s fine d divisor) (in-ten ts && at-most s fine divisor mu mv h n ts) (t .0)
+    joined (divisors s fine du dv divisor) (in-ten ts && at-most s fine divisor mu mv h n ts) (t .0)
     (joined (in-ten ts) (at-most s fine divisor mu mv h n ts) (r .0)
     (le→leb error (2 * divisor * h * fine)
     (le-trans (leb→le error (2 * divisor * g * fine) (r .1)) (mul-le-mul-right fine (mul-le-mul-left (2 * divisor) l)))))
@@ -121,23 +122,23 @@ module _ {s fine : ℕ} (hs : 0 < s) (hfine : 0 < fine) where
         let b = and-yes (ltb i 10) (ltb j 10) (a .0) in
         near-sum c (product-near i j (ltb→lt i 10 (b .0)) (ltb→lt j 10 (b .1))) (sum-near ts (a .1))
 
--- the answer, of u = a / d and v = b / d rounded: it is within h nths of a unit of the exact value, which the scale over the
+-- the answer, of u = a / du and v = b / dv rounded: it is within h nths of a unit of the exact value, which the scale over the
 -- last divisor carries into the answer's unit
-pub answer-near : (s fine d divisor mu mv h n : ℕ) (ts : List Term) (a b : ℤ) → natAbs (roundDiv a d) ≤ mu → natAbs (roundDiv b d) ≤ mv → T (bounded s fine d divisor mu mv h n ts)
-    → Within h n (exactOf ts (a over (d * s)) (b over (d * s)) times (pos s over divisor)) (roundDiv (sum s ts (powersOf s (roundDiv a d) 10) (powersOf s (roundDiv b d) 10)) divisor)
-answer-near s fine d divisor mu mv h n ts a b hu hv test =
-    let t = and-yes (divisors s fine d divisor) (in-ten ts && at-most s fine divisor mu mv h n ts) test in
+pub answer-near : (s fine du dv divisor mu mv h n : ℕ) (ts : List Term) (a b : ℤ) → natAbs (roundDiv a du) ≤ mu → natAbs (roundDiv b dv) ≤ mv → T (bounded s fine du dv divisor mu mv h n ts)
+    → Within h n (exactOf ts (a over (du * s)) (b over (dv * s)) times (pos s over divisor)) (roundDiv (sum s ts (powersOf s (roundDiv a du) 10) (powersOf s (roundDiv b dv) 10)) divisor)
+answer-near s fine du dv divisor mu mv h n ts a b hu hv test =
+    let t = and-yes (divisors s fine du dv divisor) (in-ten ts && at-most s fine divisor mu mv h n ts) test in
     let r = and-yes (in-ten ts) (at-most s fine divisor mu mv h n ts) (t .1) in
-    let p = and-yes (ltb 0 s && ltb 0 fine) (ltb 0 d && ltb 0 divisor) (t .0) in
+    let p = and-yes (ltb 0 s && ltb 0 fine) (ltb 0 du && (ltb 0 dv && ltb 0 divisor)) (t .0) in
     let q = and-yes (ltb 0 s) (ltb 0 fine) (p .0) in
-    let o = and-yes (ltb 0 d) (ltb 0 divisor) (p .1) in
+    let o = three (ltb 0 du) (ltb 0 dv) (ltb 0 divisor) (p .1) in
     let hs = ltb→lt 0 s (q .0) in
     let hfine = ltb→lt 0 fine (q .1) in
-    let hd = ltb→lt 0 d (o .0) in
-    let proper = mul-pos hd hs in
-    near-answer hfine h n (ltb→lt 0 divisor (o .1)) (exact-proper (a over (d * s)) (b over (d * s)) proper proper ts)
+    let hu' = ltb→lt 0 du (o .0) in
+    let hv' = ltb→lt 0 dv (o .1) in
+    near-answer hfine h n (ltb→lt 0 divisor (o .2)) (exact-proper (a over (du * s)) (b over (dv * s)) (mul-pos hu' hs) (mul-pos hv' hs) ts)
     (leb→le (n * (fine * divisor + 2 * sum-error s fine mu mv ts)) (2 * divisor * h * fine) (r .1))
-    (sum-near hs hfine hu hv (near-quotient a hd) (near-quotient b hd) ts (r .0))
+    (sum-near hs hfine hu hv (near-quotient a hu') (near-quotient b hv') ts (r .0))
 
 -- ---- what the test has to charge: at two points the answer is 5 units off, so that it must refuse a bound of 4
 -- u or v is the quotient by d, and the scale and the last divisor are document 01's
@@ -150,10 +151,10 @@ value d a b ts = exactOf ts (a over (d * scale)) (b over (d * scale))
 pub record Charged : Type 0 where
   -- the coefficient: 1,000,000,000 U, where u is 1 / 2, rounded to 1
   pub coefficient-far : Beyond 4 1 (value 2 (pos 1) (pos 0) (term (pos 1000000000) 1 0 ∷ [])) (answer 2 (pos 1) (pos 0) (term (pos 1000000000) 1 0 ∷ []))
-  pub coefficient-refused : bounded scale 1000000 2 scale 1 0 4 1 (term (pos 1000000000) 1 0 ∷ []) ≡ false
+  pub coefficient-refused : bounded scale 1000000 2 2 scale 1 0 4 1 (term (pos 1000000000) 1 0 ∷ []) ≡ false
   -- the rounding of a product: 1,000,000,000 U V, where u times v is half the scale
   pub product-far : Beyond 4 1 (value 1 (pos 10000) (pos 5000) (term (pos 1000000000) 1 1 ∷ [])) (answer 1 (pos 10000) (pos 5000) (term (pos 1000000000) 1 1 ∷ []))
-  pub product-refused : bounded scale 1000000 1 scale 10000 5000 4 1 (term (pos 1000000000) 1 1 ∷ []) ≡ false
+  pub product-refused : bounded scale 1000000 1 1 scale 10000 5000 4 1 (term (pos 1000000000) 1 1 ∷ []) ≡ false
 
 pub charged : Charged
 unfolding roundDiv power powersOf sum exactOf _to-the_

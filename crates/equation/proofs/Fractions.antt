@@ -54,6 +54,13 @@ same-times f s = apart (f .top) (f .bottom)
     apart : (t : ℤ) (b : ℕ) → t *ℤ pos (b * s) ≡ t *ℤ pos s *ℤ pos b
     apart t b = rw (by-diff t, pos-diff b, pos-diff s, pos-diff (b * s)) (simp ring₀ (diff-cong _ _ _ _ (omega arith)))
 
+-- and so times w
+pub same-scaled : (f : Fraction) (s w : ℕ) → Same (f times (pos s over s) times whole (pos w)) (f times whole (pos w))
+same-scaled f s w = apart (f .top) (f .bottom)
+  where
+    apart : (t : ℤ) (b : ℕ) → t *ℤ pos s *ℤ pos w *ℤ pos (b * 1) ≡ t *ℤ pos w *ℤ pos (b * s * 1)
+    apart t b = rw (by-diff t, pos-diff s, pos-diff w, pos-diff (b * 1), pos-diff (b * s * 1)) (simp ring₀ (diff-cong _ _ _ _ (omega arith)))
+
 -- a wider bound
 pub within-wider : {h n : ℕ} {f : Fraction} {x : ℤ} (o m : ℕ) → 0 < n → m * h ≤ o * n → Within h n f x → Within o m f x
 within-wider {h} {n} {f} {x} o m p t w = record {

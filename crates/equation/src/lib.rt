@@ -1,4 +1,4 @@
-// The working rule: the powers of u and of v, and one equation over its table of terms. It knows no datum.
+// The working rule: the powers of u and of v, and the sum of one equation over its table of terms. It knows no datum.
 use whole::Parts;
 ghost use mathlib.Core.Path.{_≡_};
 ghost use Prim.Native.Nat.{_≤_};
@@ -6,7 +6,7 @@ ghost use lib.IntN.{natAbs};
 ghost use lib.ListN.{length};
 ghost use Rattle.whole.specs.Round.{scale};
 ghost use Rattle.equation.specs.Powers.{powersOf};
-ghost use Rattle.equation.specs.Equation.{terms, equationOf};
+ghost use Rattle.equation.specs.Equation.{terms, sum};
 ghost use Rattle.equation.specs.Room.{Room};
 
 // The powers of u from the zeroth to the ninth, in hundred-millionths, each the one before times u, rounded.
@@ -34,20 +34,20 @@ pub fn powers(u: Parts) -> [i64; 10]
     out
 }
 
-// The sum of each coefficient times its product of powers, which is exact, over the scale and rounded once.
+// The sum of each coefficient times its product of powers, which is exact. Who calls divides it, by a literal, and rounds once.
 // The table is three columns of one length: coefficients, powers of u, powers of v.
-pub fn equation(coefficients: &[i64], us: &[u8], vs: &[u8], pu: [i64; 10], pv: [i64; 10]) -> i64
+pub fn sum(coefficients: &[i64], us: &[u8], vs: &[u8], pu: [i64; 10], pv: [i64; 10]) -> i64
     requires { ⌜ (length (now us) ≡ length (now coefficients)) × (length (now vs) ≡ length (now coefficients)) ⌝ }
     requires { ⌜ Room (terms (now coefficients) (now us) (now vs)) pu pv ⌝ }
-    ensures { λ r. ⌜ r ≡ equationOf scale (terms (now (coefficients .entry)) (now (us .entry)) (now (vs .entry))) pu pv ⌝ }
+    ensures { λ r. ⌜ r ≡ sum scale (terms (now (coefficients .entry)) (now (us .entry)) (now (vs .entry))) pu pv ⌝ }
 {
-    let mut sum: i64 = 0;
+    let mut total: i64 = 0;
     let mut k: usize = 0;
     while k < coefficients.len() {
         let i = us[k] as usize;
         let j = vs[k] as usize;
-        sum = sum + coefficients[k] * whole::rounded(pu[i] * pv[j]);
+        total = total + coefficients[k] * whole::rounded(pu[i] * pv[j]);
         k += 1;
     }
-    whole::rounded(sum)
+    total
 }

@@ -15,7 +15,7 @@ use Rattle.kinds.proofs.Tested.{of-four-bytes}
 use Rattle.equation.specs.Exact.{Fraction, Within, NearTo}
 use Rattle.equation.proofs.Fractions.{within-wider, near-wider, within-both}
 use Rattle.tables.specs.Page.{Family, shift, geoid, ofEach, each, Each}
-use Rattle.datum.specs.Exact.{AllWithin}
+use Rattle.datum.specs.Exact.{AllWithin, demanded}
 use Rattle.tables.proofs.Families.{each-by, shift-so, geoid-so}
 use Rattle.datum.proofs.Errors.{no-narrower, all-nearer}
 use Rattle.floating.specs.Floats.{_dividedBy_, perSecond, perMetre, seconds, metres, inFloats, answerInFloats}
@@ -71,6 +71,11 @@ floats-near bounds exacts values four = go bounds values (all-held values four)
     go (geoid h) (geoid a) p = geoid-so exacts (λ n w. float-near perMetre h (lit< tt) (lit≤ tt) a p w)
     go (shift h i j) (geoid a) p = λ w. w
     go (geoid h) (shift a b c) p = λ w. w
+
+-- what is demanded of floats is what is demanded of the whole values
+pub float-demand : (values : Family ℤ) → demanded (inFloats values) ≡ demanded values
+float-demand (shift a b c) = refl
+float-demand (geoid n) = refl
 
 -- wider bounds, in other parts of a unit
 pub floats-wider : (n m : ℕ) → 0 < n → (narrow wide : Family ℕ) (exacts : Family Fraction) (floats : Family Float) → T (no-narrower n m narrow wide)

@@ -7,6 +7,7 @@ use lib.Ieee.{Float, binary64, div, ofBits, ofInt, round}
 use mir.Syntax.{w32, w64}
 use mir.Val.{SFits, toZ, ofZ}
 use Rattle.whole.proofs.Words.{of}
+use Rattle.kinds.proofs.Calls.{came}
 use Rattle.datum.specs.Point.{valuesOf}
 use Rattle.floating.specs.Floats.{_dividedBy_, perSecond, perMetre, floatingOf, floatZero}
 use Rattle.floating.specs.Cases.{floatAnswer}
@@ -30,19 +31,9 @@ pub once-divided : (units : ℕ) {constant : Float} (n m : ℤ) → constant ≡
     → div binary64 (ofInt binary64 (toZ w32 (ofZ w32 n))) constant ≡ m dividedBy units
 once-divided units n m e fits same = λ i. div binary64 (ofInt binary64 ((of fits .reads ∙ same) i)) (e i)
 
--- ---- a call on a point, of its three numbers as they came
+-- ---- the three values of a point, of its three numbers as they came
 module _ {code latitude longitude : ℤ} (c : SFits w64 code) (b : SFits w64 latitude) (l : SFits w64 longitude) where
-  pub came : {A : Type 0} (call : ℤ → ℤ → ℤ → A) → call (toZ w64 (ofZ w64 code)) (toZ w64 (ofZ w64 latitude)) (toZ w64 (ofZ w64 longitude)) ≡ call code latitude longitude
-  came call = λ i. call (of c .reads i) (of b .reads i) (of l .reads i)
-
-  -- what is made of the case that was found
-  pub found : {E A B : Type 0} (says : E → A) (made : A → B) (call : ℤ → ℤ → ℤ → A) {given case : E}
-      → says given ≡ call (toZ w64 (ofZ w64 code)) (toZ w64 (ofZ w64 latitude)) (toZ w64 (ofZ w64 longitude))
-      → given ≡ case → made (says case) ≡ made (call code latitude longitude)
-  found says made call e same = ap made (ap says (sym same) ∙ e ∙ came call)
-
-  -- the three values
   pub values-of : (given : Answer) {values : List Float}
       → floatAnswer given ≡ floatingOf (toZ w64 (ofZ w64 code)) (toZ w64 (ofZ w64 latitude)) (toZ w64 (ofZ w64 longitude))
       → values ≡ valuesOf floatZero (floatAnswer given) → values ≡ valuesOf floatZero (floatingOf code latitude longitude)
-  values-of given e same = same ∙ ap (valuesOf floatZero) (e ∙ came floatingOf)
+  values-of given e same = same ∙ ap (valuesOf floatZero) (e ∙ came c b l floatingOf)

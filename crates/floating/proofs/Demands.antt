@@ -18,10 +18,9 @@ use Rattle.equation.specs.Equation.{sum}
 use Rattle.equation.specs.Exact.{_over_, whole, Within}
 use Rattle.tables.specs.Page.{Family, shift, geoid, isEither, ofEach}
 use Rattle.tables.specs.Rule.{inArea, worked}
-use Rattle.datum.specs.Point.{isCode, pageOf, answerOf, firstOf, secondOf, thirdOf}
+use Rattle.datum.specs.Point.{isCode, row, pageOf, answerOf, firstOf, secondOf, thirdOf}
 use Rattle.datum.specs.Exact.{exact, demanded, boundsOf}
-use Rattle.datum.proofs.Codes.{six}
-use Rattle.datum.proofs.Errors.{no-narrower}
+use Rattle.datum.proofs.Errors.{no-narrower, same-demand, row-float-demanded}
 use Rattle.datum.proofs.Demands as datum
 use Rattle.floating.specs.Floats.{perSecond, perMetre, seconds, metres, inFloats, answerInFloats, floatingOf, floatZero}
 use Rattle.floating.specs.Cases.{floatsSay, floatAnswer}
@@ -146,10 +145,9 @@ module _ (code latitude longitude : ℤ) where
   as-demanded {floats} h =
       let g = answered floats .0 h in
       let p = datum.answered isEither code latitude longitude (g .0) .0 (g .1 .0) in
-      let e : inFloats (worked (pageOf code) latitude longitude) ≡ floats = ap inFloats (p .1 .1) ∙ g .1 .1 in
+      let e : demanded (pageOf code .equations) ≡ demanded floats = sym (same-demand _ (pageOf code .equations)) ∙ ap demanded (p .1 .1) ∙ sym (answers.float-demand (g .0)) ∙ ap demanded (g .1 .1) in
       answers.floats-wider 1000 1 (lit< tt) (ofEach (λ h. h + 1) (boundsOf code)) (demanded floats) (exact (pageOf code) latitude longitude) floats
-      (subst (λ (f : Family Float). T (no-narrower 1000 1 (ofEach (λ h. h + 1) (boundsOf code)) (demanded f))) e
-      (six (λ z. T (no-narrower 1000 1 (ofEach (λ h. h + 1) (boundsOf z)) (demanded (inFloats (worked (pageOf z) latitude longitude))))) tt tt tt tt tt tt code (p .0 .0)))
+      (subst (λ (d : Family ℕ). T (no-narrower 1000 1 (ofEach (λ h. h + 1) (boundsOf code)) d)) e (row-float-demanded (row code)))
       (within-bounds h)
 
   -- and each point in its area is answered

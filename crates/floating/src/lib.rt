@@ -6,7 +6,7 @@ use kinds::Height;
 ghost use mathlib.Core.Path.{_≡_};
 ghost use Rattle.kinds.specs.Answer.{refusalOf};
 ghost use Rattle.datum.specs.Point.{firstOf, secondOf, thirdOf, valuesOf};
-ghost use Rattle.tables.specs.Cases.{shiftSays};
+ghost use Rattle.datum.specs.Cases.{shiftSays};
 ghost use Rattle.floating.specs.Floats.{seconds, metres, inFloats, floatingOf, floatZero};
 ghost use Rattle.floating.specs.Cases.{floatsSay, floatAnswer};
 

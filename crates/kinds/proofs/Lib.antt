@@ -9,6 +9,8 @@ pub mod Ranges
 pub mod Bytes
 -- bytes put at the start of a lent buffer, and after those that stand there
 pub mod Writing
+-- a call that hands its three numbers on
+pub mod Calls
 -- a local position converted by its shift
 pub mod Conversion
 -- what document 01 asks of refusals, lent buffers and kinds

@@ -11,8 +11,10 @@ use mir.Syntax.{Width, w32, w64}
 use mir.Val.{SFits, hbits, toZ, ofZ}
 use Rattle.whole.proofs.Bools.{both, joined}
 use Rattle.whole.proofs.Words.{of, cast, cast-asks}
-use Rattle.kinds.specs.Answer.{gives, refused}
+use Rattle.kinds.specs.Answer.{Answer, gives, refused}
 use Rattle.kinds.specs.Kinds.{within, isFourBytes, tested}
+use Rattle.kinds.proofs.Answers.{failed, same-value}
+use Rattle.kinds.proofs.Answers as answers
 
 -- what lies between two numbers that a width holds, it holds
 between : {w : Width} (least largest x : ℤ) → SFits w least → SFits w largest → within least largest x ≡ true → SFits w x
@@ -58,3 +60,16 @@ of-four-bytes x t = between (negsuc 2147483647) (pos 2147483647) x (record { sfi
 pub in-four-bytes : (x : ℤ) → SFits w32 x → isFourBytes x ≡ true
 in-four-bytes (pos n) f = le-leb n 2147483647 (omega (arith, f .sfits))
 in-four-bytes (negsuc n) f = joined (le-leb n 2147483647 (omega (arith, f .sfits))) refl
+
+-- ---- what a constructor answered, read back: the raw number passed its test and is what was made, or it did not pass
+module _ (inside : ℤ → Bool) {raw : ℤ} (f : SFits w64 raw) where
+  abbrev told : Answer ℤ
+  told = tested (inside (toZ w64 (ofZ w64 raw))) (toZ w64 (ofZ w64 raw))
+
+  pub accepted : {y : ℤ} → told ≡ gives y → (inside raw ≡ true) × (y ≡ raw)
+  accepted {y} e =
+      let p = answers.passed (inside (toZ w64 (ofZ w64 raw))) 3 (gives (toZ w64 (ofZ w64 raw))) e in
+      (ap inside (sym (of f .reads)) ∙ p .0, sym (same-value (p .1)) ∙ of f .reads)
+
+  pub rejected : {n : ℕ} → told ≡ refused n → inside raw ≡ false
+  rejected e = ap inside (sym (of f .reads)) ∙ failed (inside (toZ w64 (ofZ w64 raw))) 3 (toZ w64 (ofZ w64 raw)) e .0

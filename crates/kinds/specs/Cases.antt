@@ -6,6 +6,8 @@ use Rattle.kinds.specs.declared.LocalLatitudeAnswer.{LocalLatitudeAnswer
 use Rattle.kinds.specs.declared.LocalLatitudeAnswer.the-variants as LocalLatitude
 use Rattle.kinds.specs.declared.LocalLongitudeAnswer.{LocalLongitudeAnswer}
 use Rattle.kinds.specs.declared.LocalLongitudeAnswer.the-variants as LocalLongitude
+use Rattle.kinds.specs.declared.LocalPositionAnswer.{LocalPositionAnswer}
+use Rattle.kinds.specs.declared.LocalPositionAnswer.the-variants as LocalPosition
 use Rattle.kinds.specs.declared.Wgs84LatitudeAnswer.{Wgs84LatitudeAnswer}
 use Rattle.kinds.specs.declared.Wgs84LatitudeAnswer.the-variants as Wgs84Latitude
 use Rattle.kinds.specs.declared.Wgs84LongitudeAnswer.{Wgs84LongitudeAnswer}
@@ -24,6 +26,10 @@ localLatitude (LocalLatitude.Refused r) = refused (numberOf r)
 abbrev pub localLongitude : LocalLongitudeAnswer → Answer ℤ
 localLongitude (LocalLongitude.Gives x) = gives (x .0)
 localLongitude (LocalLongitude.Refused r) = refused (numberOf r)
+
+abbrev pub localPosition : LocalPositionAnswer → Answer (ℤ × ℤ)
+localPosition (LocalPosition.Gives p) = gives (p .latitude .0, p .longitude .0)
+localPosition (LocalPosition.Refused r) = refused (numberOf r)
 
 abbrev pub wgs84Latitude : Wgs84LatitudeAnswer → Answer ℤ
 wgs84Latitude (Wgs84Latitude.Gives x) = gives (x .0)

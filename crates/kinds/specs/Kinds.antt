@@ -17,6 +17,10 @@ isLatitude x = within (negℤ (pos 324000000)) (pos 324000000) x
 abbrev pub isLongitude : ℤ → Bool
 isLongitude x = within (pos 0) (pos 1295999999) x
 
+-- a position: both
+abbrev pub isPosition : ℤ → ℤ → Bool
+isPosition latitude longitude = isLatitude latitude && isLongitude longitude
+
 -- the same in 0.00001", of which 100 are a ms
 abbrev pub isWgs84Latitude : ℤ → Bool
 isWgs84Latitude x = within (negℤ (pos (100 * 324000000))) (pos (100 * 324000000)) x

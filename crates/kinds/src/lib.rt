@@ -4,9 +4,9 @@
 // takes one kind, or a bare number, for another kind does not build.
 ghost use mathlib.Core.Path.{_≡_};
 ghost use lib.ListN.{length};
-ghost use Rattle.kinds.specs.Answer.{numberOf, placed, counted, lent};
-ghost use Rattle.kinds.specs.Cases.{localLatitude, localLongitude, wgs84Latitude, wgs84Longitude, angleShift, height, written};
-ghost use Rattle.kinds.specs.Kinds.{within, isLatitude, isLongitude, isWgs84Latitude, isWgs84Longitude, isFourBytes, tested, converted};
+ghost use Rattle.kinds.specs.Answer.{gives, provided, numberOf, placed, counted, lent};
+ghost use Rattle.kinds.specs.Cases.{localLatitude, localLongitude, localPosition, wgs84Latitude, wgs84Longitude, angleShift, height, written};
+ghost use Rattle.kinds.specs.Kinds.{within, isLatitude, isLongitude, isPosition, isWgs84Latitude, isWgs84Longitude, isFourBytes, tested, converted};
 
 // Why a call is refused, in the order of document 01's numbers.
 pub enum Refusal {
@@ -146,6 +146,35 @@ impl LocalLongitude {
         ensures { λ r. ⌜ r .0 ≡ converted (self .0) (by .0) ⌝ }
     {
         Wgs84Longitude(converted(self.0, by))
+    }
+}
+
+// A position on the local datum.
+pub struct LocalPosition {
+    pub latitude: LocalLatitude,
+    pub longitude: LocalLongitude,
+}
+
+pub enum LocalPositionAnswer {
+    Gives(LocalPosition),
+    Refused(Refusal),
+}
+
+impl LocalPosition {
+    // Refused with 3 where the one or the other is out of range.
+    pub fn new(latitude: i64, longitude: i64) -> LocalPositionAnswer
+        ensures { λ r. ⌜ localPosition r ≡ provided (isPosition latitude longitude) 3 (gives (latitude, longitude)) ⌝ }
+    {
+        let LocalLatitudeAnswer::Gives(north) = LocalLatitude::new(latitude) else {
+            return LocalPositionAnswer::Refused(Refusal::Range);
+        };
+        let LocalLongitudeAnswer::Gives(east) = LocalLongitude::new(longitude) else {
+            return LocalPositionAnswer::Refused(Refusal::Range);
+        };
+        LocalPositionAnswer::Gives(LocalPosition {
+            latitude: north,
+            longitude: east,
+        })
     }
 }
 

@@ -16,7 +16,7 @@ ghost use Prim.Native.Nat.{_+_, _≤_};
 ghost use lib.ListN.{length, drop};
 ghost use Rattle.kinds.specs.Answer.{numberOf, placed, counted, lent};
 ghost use Rattle.kinds.specs.Cases.{localLongitude, written};
-ghost use Rattle.tables.specs.Cases.{shiftSays, geoidSays};
+ghost use Rattle.datum.specs.Cases.{shiftSays, geoidSays};
 ghost use Rattle.line.specs.Line.{answerLine, lineOf};
 ghost use Rattle.line.specs.Inside.{placeSays, placeAnswer, readOf, withLongitude, firstRefusal, answeredOf};
 

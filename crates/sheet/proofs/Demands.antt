@@ -10,14 +10,14 @@ use lib.ListN.{length, replicate}
 use borrow.Author.Tests.{leb-true, le-leb}
 use Rattle.whole.specs.Places.{fromPlaces, inPlaces}
 use Rattle.kinds.specs.Answer.{Answer, gives, refused, AllHold, FirstFails, following, refusalOf, placed, counted, lent}
-use Rattle.kinds.specs.Kinds.{within}
+use Rattle.kinds.specs.Kinds.{within, isPosition}
 use Rattle.kinds.specs.Bytes.{part}
 use Rattle.kinds.proofs.Demands.{by-number}
 use Rattle.kinds.proofs.Answers.{told}
 use Rattle.tables.specs.Page.{Family, shift, geoid, isEither}
 use Rattle.tables.specs.Rule.{inArea}
 use Rattle.tables.specs.Rule as rule
-use Rattle.datum.specs.Point.{isCode, pageOf, inRange, valuesOf}
+use Rattle.datum.specs.Point.{isCode, pageOf, valuesOf}
 use Rattle.datum.specs.Exact.{exact, AllWithin, demanded}
 use Rattle.datum.proofs.Demands as datum
 use Rattle.numbers.specs.Numbers.{areBytes, number, inBytes, complement}
@@ -183,19 +183,19 @@ module _ (unit : ℤ) (bytes : List ℕ) (room : ℕ) {result : List ℕ} (h : w
 
     -- demand 2: the first byte is 3 exactly where the point is out of range, 6 exactly where it is in range and outside its
     -- area, and otherwise 0, and the numbers are those that the printed coefficients give under the working rule
-    pub given-3-at : (recordRefusal (recordAt k result) ≡ 3) ↔ (inRange latitude longitude ≡ false)
+    pub given-3-at : (recordRefusal (recordAt k result) ≡ 3) ↔ (isPosition latitude longitude ≡ false)
     given-3-at = (
       (λ e. datum.given-3 isEither (pos code) latitude longitude .0 (by-number (answerAt (pointAt k bytes)) 3 (omega arith) .1 (sym refusal-at ∙ e)) .1 .1),
       (λ e. refusal-at ∙ ap refusalOf (datum.given-3 isEither (pos code) latitude longitude .1 (code-is, (refl, e)))),
     )
 
-    pub given-6-at : (recordRefusal (recordAt k result) ≡ 6) ↔ ((inRange latitude longitude ≡ true) × (inArea (pageOf (pos code)) latitude longitude ≡ false))
+    pub given-6-at : (recordRefusal (recordAt k result) ≡ 6) ↔ ((isPosition latitude longitude ≡ true) × (inArea (pageOf (pos code)) latitude longitude ≡ false))
     given-6-at = (
       (λ e. datum.given-6 isEither (pos code) latitude longitude .0 (by-number (answerAt (pointAt k bytes)) 6 (omega arith) .1 (sym refusal-at ∙ e)) .1 .1),
       (λ e. refusal-at ∙ ap refusalOf (datum.given-6 isEither (pos code) latitude longitude .1 (code-is, (refl, e)))),
     )
 
-    pub worked-at : inRange latitude longitude ≡ true → inArea (pageOf (pos code)) latitude longitude ≡ true
+    pub worked-at : isPosition latitude longitude ≡ true → inArea (pageOf (pos code)) latitude longitude ≡ true
         → (recordRefusal (recordAt k result) ≡ 0) × (recordNumbers (recordAt k result) ≡ valuesOf (pos 0) (gives (rule.worked (pageOf (pos code)) latitude longitude)))
     worked-at ranged inside =
         let e = datum.answered isEither (pos code) latitude longitude (rule.worked (pageOf (pos code)) latitude longitude) .1 ((code-is, refl), ((ranged, inside), refl)) in

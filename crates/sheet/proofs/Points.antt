@@ -19,7 +19,7 @@ use Rattle.kinds.specs.declared.Refusal.{Refusal}
 use Rattle.kinds.proofs.Bytes.{at}
 use Rattle.datum.specs.Point.{answerOf}
 use Rattle.datum.specs.Cases.{pointAnswer}
-use Rattle.tables.specs.declared.Shifts.{Shifts}
+use Rattle.datum.specs.declared.Shifts.{Shifts}
 use Rattle.datum.specs.declared.PointAnswer.{PointAnswer}
 use Rattle.datum.specs.declared.PointAnswer.the-variants as Said
 use Rattle.numbers.specs.Numbers.{number, inBytes, complement, signed}

@@ -1,15 +1,8 @@
 -- What holds of each of a family's values: by a test of each, and by what holds already. Assumes nothing.
 use mathlib.Core.Bool.{Bool, false, _&&_}
 use lib.Dec.{T}
-use mir.Facts.{and-yes}
+use Rattle.whole.proofs.Bools.{three}
 use Rattle.tables.specs.Page.{Family, shift, geoid, ofEach, each, Each, OfShift, OfGeoid, Paired}
-
--- three tests
-pub three : (a b c : Bool) → T (a && (b && c)) → T a × T b × T c
-three a b c h =
-    let p = and-yes a (b && c) h in
-    let q = and-yes b c (p .1) in
-    (p .0, q .0, q .1)
 
 -- ---- by a test
 pub each-by : {A : Type 0} {P : A → Type 0} (test : A → Bool) → ((a : A) → T (test a) → P a) → (family : Family A) → T (each test family) → Each P family

@@ -1,146 +1,136 @@
--- The limits of a page: what one computed test shows of every point of its area. Assumes nothing.
-use mathlib.Core.Path.{_≡_}
-use mathlib.Core.Bool.{Bool, true, _&&_, false≢true}
+-- The limits of a page: what one computed test shows of every point of its box. Assumes nothing.
+use mathlib.Core.Path.{_≡_, sym, ap, subst}
+use mathlib.Core.Bool.{Bool, true, _&&_}
 use mathlib.Core.List.{List}
-use Prim.Native.Nat.{ℕ, _-_, _*_, _<_, _≤_, max}
-use native.Mathlib.Nat.{le-refl, le-trans, le-max-left, le-max-right}
-use native.Mathlib.Omega.{arith}
-use lib.Dec.{T, leb, leb→le, lit<}
-use lib.ListN.{getD}
-use lib.IntN.{ℤ, pos, negsuc, natAbs, _-ℤ_}
-use lib.Signed.{leZ}
-use borrow.Author.Tests.{leb-true}
+use Prim.Native.Nat.{ℕ, _<_, _≤_, max}
+use native.Mathlib.Nat.{le-trans}
+use lib.Dec.{T, leb, leb→le, ltb, ltb→lt, eqb, eqb→eq, lit<}
+use lib.ListN.{getD, drop}
+use lib.IntN.{ℤ, natAbs}
+use lib.Signed.{leZ, _≤ℤ_, leZ-yes}
 use mir.Facts.{and-yes}
-use Rattle.whole.specs.Round.{roundHalfUp, scale}
-use Rattle.whole.proofs.Below.{below}
-use Rattle.whole.proofs.Bools.{both}
-use Rattle.whole.proofs.Ring.{pos-sub}
-use Rattle.whole.proofs.Sizes.{abs-sub}
-use Rattle.whole.proofs.Rounding.{product-size}
+use Rattle.whole.specs.Round.{roundDiv, scale}
+use Rattle.whole.specs.Every.{every}
+use Rattle.whole.proofs.Bools.{both, three}
+use Rattle.whole.proofs.Every.{every-place}
+use Rattle.whole.proofs.Orders.{multiple-order, between-size}
 use Rattle.whole.proofs.Words.{small}
+use Rattle.whole.proofs.Demands.{in-order}
 use Rattle.kinds.specs.Kinds.{within}
 use Rattle.equation.specs.Powers.{powersOf}
-use Rattle.equation.specs.Equation.{Term, equationOf}
+use Rattle.equation.specs.Equation.{equationOf}
 use Rattle.equation.proofs.Limits.{keeps, room, in-four-bytes}
-use Rattle.tables.specs.Page.{Page, Family, each}
+use Rattle.tables.specs.Page.{Page, Axis, Equation, Family, each}
 use Rattle.tables.specs.Cyprus.{cyprus}
-use Rattle.tables.specs.Rule.{fromCentre, inArea}
+use Rattle.tables.specs.Rule.{longitudeOn, inBox, along, powersU, powersV}
 use Rattle.tables.specs.Tables.{pages}
-use Rattle.tables.specs.Inside.{shiftPage, geoidPage, frameOf, TableFits, AllFit, Close}
-use Rattle.tables.specs.declared.ShiftDatum.{ShiftDatum}
-use Rattle.tables.specs.declared.ShiftDatum.the-variants.{Cyprus, Minna, Alaska, Qatar}
-use Rattle.tables.specs.declared.GeoidDatum.{GeoidDatum}
-use Rattle.tables.specs.declared.GeoidDatum.the-variants.{Kandawala, Nahrwan}
+use Rattle.tables.specs.Inside.{axisOf, onAxis, Fits, AllFit, Close}
 use Rattle.tables.proofs.Families.{each-by}
 
 -- ---- the test
--- the farthest from the centre, in ms, and in hundred-millionths
-abbrev farthest : ℕ → ℕ → ℕ → ℕ
-farthest centre least largest = max (centre - least) (largest - centre)
+-- of an axis: the code's divisor, and numbers so small that 64 bits hold what is divided
+abbrev axis-keeps : Axis → Bool
+axis-keeps axis = eqb (axis .divisor) 3600000 && (leb (axis .factor) 1000000000 && leb (natAbs (axis .offset)) 1000000000000000000)
+
+-- the largest u or v, which is at one end of the box
+abbrev most : Axis → ℤ → ℤ → ℕ
+most axis least largest = max (natAbs (along axis least)) (natAbs (along axis largest))
 
 abbrev pub most-u : Page → ℕ
-most-u page = roundHalfUp (page .k * farthest (page .latitude) (page .south) (page .north)) 3600000
+most-u page = most (page .u) (page .south) (page .north)
 
 abbrev pub most-v : Page → ℕ
-most-v page = roundHalfUp (page .k * farthest (page .longitude) (page .west) (page .east)) 3600000
+most-v page = most (page .v) (page .west) (page .east)
 
-abbrev all-keep : ℕ → ℕ → Family (List Term) → Bool
-all-keep mu mv = each (keeps scale mu mv)
+abbrev equation-keeps : ℕ → ℕ → Equation → Bool
+equation-keeps mu mv e = ltb 0 (e .divisor) && keeps (e .divisor) mu mv (e .terms)
 
-abbrev frame-keeps : Page → Bool
-frame-keeps page = leb (page .k) 1000000000 && (leb (page .latitude) 2000000000 && leb (page .longitude) 2000000000)
+abbrev sizes-keep : Page → Bool
+sizes-keep page = leb (most-u page) 1000000000 && (leb (most-v page) 1000000000 && each (equation-keeps (most-u page) (most-v page)) (page .equations))
 
 abbrev pub page-keeps : Page → Bool
-page-keeps page = frame-keeps page && (leb (most-u page) 1000000000 && (leb (most-v page) 1000000000 && all-keep (most-u page) (most-v page) (page .equations)))
+page-keeps page = axis-keeps (page .u) && (axis-keeps (page .v) && sizes-keep page)
 
--- each of the six keeps it
-pub six-keep : (n : ℕ) → n < 6 → T (page-keeps (getD pages n cyprus))
-six-keep n h = below 6 (λ k. page-keeps (getD pages k cyprus)) tt n h
+-- each of the pages keeps it
+all-keep : T (every page-keeps pages)
+unfolding roundDiv
+all-keep = tt
 
--- and the pages of the code's datums are among them
-pub shift-keeps : (d : ShiftDatum) → T (page-keeps (shiftPage d))
-shift-keeps Cyprus = six-keep 0 (lit< tt)
-shift-keeps Minna = six-keep 1 (lit< tt)
-shift-keeps Alaska = six-keep 2 (lit< tt)
-shift-keeps Qatar = six-keep 3 (lit< tt)
+pub row-keeps : (n : ℕ) → T (page-keeps (getD pages n cyprus))
+row-keeps = every-place page-keeps cyprus (drop 1 pages) all-keep
 
-pub geoid-keeps : (d : GeoidDatum) → T (page-keeps (geoidPage d))
-geoid-keeps Kandawala = six-keep 4 (lit< tt)
-geoid-keeps Nahrwan = six-keep 5 (lit< tt)
+-- ---- what it shows of an axis
+module _ (axis : Axis) (h : T (axis-keeps axis)) where
+  tests : T (eqb (axis .divisor) 3600000) × T (leb (axis .factor) 1000000000) × T (leb (natAbs (axis .offset)) 1000000000000000000)
+  tests = three (eqb (axis .divisor) 3600000) (leb (axis .factor) 1000000000) (leb (natAbs (axis .offset)) 1000000000000000000) h
 
--- ---- how far a point of an interval is from the centre
-away : (c s n x : ℕ) → s ≤ x → x ≤ n → natAbs (pos x -ℤ pos c) ≤ farthest c s n
-away c s n x h k =
-    rw (pos-sub x c)
-    (abs-sub x c (farthest c s n)
-    (omega (arith, le-max-right (c - s) (n - c)))
-    (omega (arith, le-max-left (c - s) (n - c))))
+  degree : axis .divisor ≡ 3600000
+  degree = eqb→eq (axis .divisor) 3600000 (tests .0)
 
-away-within : (c s n : ℕ) (x : ℤ) → within (pos s) (pos n) x ≡ true → natAbs (x -ℤ pos c) ≤ farthest c s n
-away-within c s n (pos x) t =
-    let h = both (leZ (pos s) (pos x)) (leZ (pos x) (pos n)) t in
-    away c s n x (leb-true s x (h .0)) (leb-true x n (h .1))
-away-within c s n (negsuc x) t = absurd (false≢true t)
+  close : Close (axisOf axis)
+  close = record { factor = leb→le _ _ (tests .1); offset = leb→le _ _ (tests .2) }
 
-from-centre-size : (k c s n : ℕ) (x : ℤ) → within (pos s) (pos n) x ≡ true → natAbs (fromCentre (pos k) (pos c) x) ≤ roundHalfUp (k * farthest c s n) 3600000
-from-centre-size k c s n x t = product-size (pos k) (x -ℤ pos c) (lit< tt) (le-refl k) (away-within c s n x t)
+  as-coded : (x : ℤ) → onAxis (axisOf axis) x ≡ along axis x
+  as-coded x = ap (roundDiv _) (sym degree)
 
--- ---- what the test shows
+  order : (a b : ℤ) → leZ a b ≡ true → along axis a ≤ℤ along axis b
+  order a b t = in-order (subst (λ (d : ℕ). 0 < d) (sym degree) (lit< tt)) (multiple-order (axis .factor) (axis .offset) {x = a} {y = b} (leZ-yes (subst T (sym t) tt)))
+
+  between : (least largest x : ℤ) → within least largest x ≡ true → natAbs (along axis x) ≤ most axis least largest
+  between least largest x t =
+      let b = both (leZ least x) (leZ x largest) t in
+      between-size (along axis least) (along axis largest) (along axis x) (order least x (b .0)) (order x largest (b .1))
+
+-- ---- what it shows of a page
 module _ (page : Page) (h : T (page-keeps page)) where
-  abbrev tables : Bool
-  tables = all-keep (most-u page) (most-v page) (page .equations)
+  parts : T (axis-keeps (page .u)) × T (axis-keeps (page .v)) × T (sizes-keep page)
+  parts = three (axis-keeps (page .u)) (axis-keeps (page .v)) (sizes-keep page) h
 
-  abbrev second : Bool
-  second = leb (most-v page) 1000000000 && tables
+  pub close-u : Close (axisOf (page .u))
+  close-u = close (page .u) (parts .0)
 
-  frame-kept : T (frame-keeps page)
-  frame-kept = and-yes (frame-keeps page) (leb (most-u page) 1000000000 && second) h .0
+  pub close-v : Close (axisOf (page .v))
+  close-v = close (page .v) (parts .1)
 
-  rest : T (leb (most-u page) 1000000000) × T second
-  rest = and-yes (leb (most-u page) 1000000000) second (and-yes (frame-keeps page) (leb (most-u page) 1000000000 && second) h .1)
+  pub u-coded : (x : ℤ) → onAxis (axisOf (page .u)) x ≡ along (page .u) x
+  u-coded = as-coded (page .u) (parts .0)
 
-  last : T (leb (most-v page) 1000000000) × T tables
-  last = and-yes (leb (most-v page) 1000000000) tables (rest .1)
+  pub v-coded : (x : ℤ) → onAxis (axisOf (page .v)) x ≡ along (page .v) x
+  v-coded = as-coded (page .v) (parts .1)
 
-  pub close : Close (frameOf page)
-  close =
-      let a = and-yes (leb (page .k) 1000000000) (leb (page .latitude) 2000000000 && leb (page .longitude) 2000000000) frame-kept in
-      let b = and-yes (leb (page .latitude) 2000000000) (leb (page .longitude) 2000000000) (a .1) in
-      record {
-        k = leb→le (page .k) 1000000000 (a .0);
-        latitude = leb→le (page .latitude) 2000000000 (b .0);
-        longitude = leb→le (page .longitude) 2000000000 (b .1);
-      }
+  sizes : T (leb (most-u page) 1000000000) × T (leb (most-v page) 1000000000) × T (each (equation-keeps (most-u page) (most-v page)) (page .equations))
+  sizes = three (leb (most-u page) 1000000000) (leb (most-v page) 1000000000) (each (equation-keeps (most-u page) (most-v page)) (page .equations)) (parts .2)
 
--- ---- of a point of the area
-module _ (page : Page) (latitude longitude : ℤ) (inside : inArea page latitude longitude ≡ true) where
-  abbrev u : ℤ
-  u = fromCentre (pos (page .k)) (pos (page .latitude)) latitude
+  -- and of a point of its box
+  module _ (latitude longitude : ℤ) (inside : inBox page latitude longitude ≡ true) where
+    abbrev u : ℤ
+    u = along (page .u) latitude
 
-  abbrev v : ℤ
-  v = fromCentre (pos (page .k)) (pos (page .longitude)) longitude
+    abbrev v : ℤ
+    v = along (page .v) (longitudeOn page longitude)
 
-  sides : (within (pos (page .south)) (pos (page .north)) latitude ≡ true) × (within (pos (page .west)) (pos (page .east)) longitude ≡ true)
-  sides = both (within (pos (page .south)) (pos (page .north)) latitude) (within (pos (page .west)) (pos (page .east)) longitude) inside
+    sides : (within (page .south) (page .north) latitude ≡ true) × (within (page .west) (page .east) (longitudeOn page longitude) ≡ true)
+    sides = both (within (page .south) (page .north) latitude) (within (page .west) (page .east) (longitudeOn page longitude)) inside
 
-  pub u-size : natAbs u ≤ most-u page
-  u-size = from-centre-size (page .k) (page .latitude) (page .south) (page .north) latitude (sides .0)
+    pub u-size : natAbs u ≤ most-u page
+    u-size = between (page .u) (parts .0) (page .south) (page .north) latitude (sides .0)
 
-  pub v-size : natAbs v ≤ most-v page
-  v-size = from-centre-size (page .k) (page .longitude) (page .west) (page .east) longitude (sides .1)
+    pub v-size : natAbs v ≤ most-v page
+    v-size = between (page .v) (parts .1) (page .west) (page .east) (longitudeOn page longitude) (sides .1)
 
-  module _ (h : T (page-keeps page)) where
     pub u-small : natAbs u ≤ 1000000000
-    u-small = le-trans u-size (leb→le (most-u page) 1000000000 (rest page h .0))
+    u-small = le-trans u-size (leb→le (most-u page) 1000000000 (sizes .0))
 
     pub v-small : natAbs v ≤ 1000000000
-    v-small = le-trans v-size (leb→le (most-v page) 1000000000 (last page h .0))
+    v-small = le-trans v-size (leb→le (most-v page) 1000000000 (sizes .1))
 
-    works : (table : List Term) → T (keeps scale (most-u page) (most-v page) table) → TableFits table (powersOf scale u 10) (powersOf scale v 10)
-    works table k = record {
-      room = room u v u-size v-size scale table k;
-      fits = small (equationOf scale table (powersOf scale u 10) (powersOf scale v 10)) (in-four-bytes u v u-size v-size scale table k (lit< tt));
-    }
+    fits : (e : Equation) → T (equation-keeps (most-u page) (most-v page) e) → Fits (e .divisor) (e .terms) (powersU page latitude) (powersV page longitude)
+    fits e t =
+        let p = and-yes (ltb 0 (e .divisor)) (keeps (e .divisor) (most-u page) (most-v page) (e .terms)) t in
+        record {
+          room = room u v u-size v-size (e .divisor) (e .terms) (p .1);
+          fits = small (equationOf (e .divisor) (e .terms) (powersU page latitude) (powersV page longitude)) (in-four-bytes u v u-size v-size (e .divisor) (e .terms) (p .1) (ltb→lt 0 (e .divisor) (p .0)));
+        }
 
-    pub work : AllFit (page .equations) (powersOf scale u 10) (powersOf scale v 10)
-    work = each-by (keeps scale (most-u page) (most-v page)) works (page .equations) (last page h .1)
+    pub all-fit : AllFit (page .equations) (powersU page latitude) (powersV page longitude)
+    all-fit = each-by (equation-keeps (most-u page) (most-v page)) fits (page .equations) (sizes .2)

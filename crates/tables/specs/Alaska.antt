@@ -1,7 +1,7 @@
 -- Code 3, NAD 27 (Alaska): document 000, Table 20.31; the area is document 01's.
 use mathlib.Core.List.{List, [], _∷_}
 use Rattle.equation.specs.Equation.{Term, plus_U^_V^_, minus_U^_V^_}
-use Rattle.tables.specs.Page.{Page, shift, at}
+use Rattle.tables.specs.Page.{Page, shift, _near_, _from_, at}
 
 abbrev pub dLat : List Term
 dLat =
@@ -77,12 +77,11 @@ dH =
 
 abbrev pub alaska : Page
 alaska = record {
-  latitude = at 62 0;
-  longitude = at 208 0;
-  k = 10471975;
+  u = 10471975 from at 62 0;
+  v = 10471975 from at 208 0;
+  equations = shift (dLat near 538) (dLon near 835) (dH near 505);
   south = at 54 0;
   north = at 72 0;
   west = at 190 0;
   east = at 220 0;
-  equations = shift dLat dLon dH;
 }

@@ -1,7 +1,7 @@
 -- Code 1, ED 50 (Cyprus): document 000, Table 20.16; the area is document 01's.
 use mathlib.Core.List.{List, [], _∷_}
 use Rattle.equation.specs.Equation.{Term, plus_U^_V^_, minus_U^_V^_}
-use Rattle.tables.specs.Page.{Page, shift, at}
+use Rattle.tables.specs.Page.{Page, shift, _near_, _from_, at}
 
 abbrev pub dLat : List Term
 dLat =
@@ -39,12 +39,11 @@ dH =
 
 abbrev pub cyprus : Page
 cyprus = record {
-  latitude = at 35 0;
-  longitude = at 33 0;
-  k = 78539816;
+  u = 78539816 from at 35 0;
+  v = 78539816 from at 33 0;
+  equations = shift (dLat near 501) (dLon near 508) (dH near 514);
   south = at 34 30;
   north = at 35 45;
   west = at 32 10;
   east = at 34 40;
-  equations = shift dLat dLon dH;
 }

@@ -1,60 +1,78 @@
--- The code's own datums and frames, and what its functions ask of who calls them. No promise of an entry point speaks of it.
+-- The code's own datums, frames and values, and what its functions ask of who calls them. No promise of an entry point speaks
+-- of it.
+use mathlib.Core.Path.{_≡_}
+use mathlib.Core.Bool.{cond}
 use mathlib.Core.List.{List}
-use Prim.Native.Nat.{_≤_}
-use lib.IntN.{ℤ, pos, natAbs}
+use Prim.Native.Nat.{ℕ, _≤_}
+use lib.IntN.{ℤ, pos, natAbs, _-ℤ_, _*ℤ_}
+use lib.ListN.{getD}
+use lib.Signed.{leZ}
 use mir.Syntax.{w32}
 use mir.Val.{SFits}
-use Rattle.whole.specs.Round.{scale}
+use Rattle.whole.specs.Round.{roundDiv}
 use Rattle.equation.specs.Equation.{Term, equationOf}
 use Rattle.equation.specs.Room.{Room}
-use Rattle.tables.specs.Page.{Page, Family, Each}
+use Rattle.tables.specs.Page as page
+use Rattle.tables.specs.Page.{Page, Equation, Family, shift, geoid, isGeoid, Each}
 use Rattle.tables.specs.Cyprus.{cyprus}
-use Rattle.tables.specs.Minna.{minna}
-use Rattle.tables.specs.Alaska.{alaska}
-use Rattle.tables.specs.Qatar.{qatar}
-use Rattle.tables.specs.Kandawala.{kandawala}
-use Rattle.tables.specs.Nahrwan.{nahrwan}
-use Rattle.tables.specs.declared.ShiftDatum.{ShiftDatum}
-use Rattle.tables.specs.declared.ShiftDatum.the-variants.{Cyprus, Minna, Alaska, Qatar}
-use Rattle.tables.specs.declared.GeoidDatum.{GeoidDatum}
-use Rattle.tables.specs.declared.GeoidDatum.the-variants.{Kandawala, Nahrwan}
+use Rattle.tables.specs.Tables.{pages}
+use Rattle.tables.specs.declared.Datum.{Datum}
+use Rattle.tables.specs.declared.Datum.the-variants.{Cyprus, Minna, Alaska, Qatar, Kandawala, Nahrwan}
+use Rattle.tables.specs.declared.Axis.{Axis}
 use Rattle.tables.specs.declared.Frame.{Frame}
+use Rattle.tables.specs.declared.Values.{Values}
 
--- ---- the code's datums, and the page of each
-abbrev pub shiftPage : ShiftDatum → Page
-shiftPage Cyprus = cyprus
-shiftPage Minna = minna
-shiftPage Alaska = alaska
-shiftPage Qatar = qatar
+-- ---- the code's datums: the row of each in a list by codes, and its page
+abbrev pub rowOf : Datum → ℕ
+rowOf Cyprus = 0
+rowOf Minna = 1
+rowOf Alaska = 2
+rowOf Qatar = 3
+rowOf Kandawala = 4
+rowOf Nahrwan = 5
 
-abbrev pub geoidPage : GeoidDatum → Page
-geoidPage Kandawala = kandawala
-geoidPage Nahrwan = nahrwan
+abbrev pub datumPage : Datum → Page
+datumPage datum = getD pages (rowOf datum) cyprus
 
--- ---- a frame: centre, K and area, in ms
+-- ---- a frame: the family, how u and v come, and the area. The axes' divisor is a literal of the code
+abbrev pub axisOf : page.Axis → Axis
+axisOf axis = record { factor = pos (axis .factor); offset = axis .offset }
+
 abbrev pub frameOf : Page → Frame
 frameOf page = record {
-  latitude = pos (page .latitude);
-  longitude = pos (page .longitude);
-  k = pos (page .k);
-  south = pos (page .south);
-  north = pos (page .north);
-  west = pos (page .west);
-  east = pos (page .east);
+  geoid = isGeoid (page .equations);
+  u = axisOf (page .u);
+  v = axisOf (page .v);
+  south = page .south;
+  north = page .north;
+  west = page .west;
+  east = page .east;
 }
 
--- ---- what is asked, and shown of every point of an area by the test that proofs/Limits computes
--- of a table: no number on the way is larger than 64 bits hold, and 4 bytes hold the answer
-pub record TableFits (table : List Term) (pu pv : List ℤ) : Type 0 where
-  pub room : Room table pu pv
-  pub fits : SFits w32 (equationOf scale table pu pv)
+-- a longitude as the frame's page counts it
+abbrev pub countedFrom : ℤ → ℤ → ℤ
+countedFrom west longitude = cond (leZ west (longitude -ℤ pos 1296000000)) (longitude -ℤ pos 1296000000) longitude
 
--- of all tables of a datum
-abbrev pub AllFit : Family (List Term) → List ℤ → List ℤ → Type 0
-AllFit tables pu pv = Each (λ table. TableFits table pu pv) tables
+-- u or v by the frame's axis
+abbrev pub onAxis : Axis → ℤ → ℤ
+onAxis axis x = roundDiv (axis .factor *ℤ x -ℤ axis .offset) 3600000
 
--- of a frame: K and the centre are so small that no distance from the centre is too large
-pub record Close (frame : Frame) : Type 0 where
-  pub k : natAbs (frame .k) ≤ 1000000000
-  pub latitude : natAbs (frame .latitude) ≤ 2000000000
-  pub longitude : natAbs (frame .longitude) ≤ 2000000000
+-- ---- three numbers say a datum's values: dLat, dLon and dH, or N and two zeros
+abbrev pub Say : Values → Family ℤ → Type 0
+Say v (shift dLat dLon dH) = (v .first ≡ dLat) × (v .second ≡ dLon) × (v .third ≡ dH)
+Say v (geoid n) = (v .first ≡ n) × (v .second ≡ pos 0) × (v .third ≡ pos 0)
+
+-- ---- what is asked, and shown of every point of a box by the test that proofs/Limits computes
+-- of an equation: no number on the way is larger than 64 bits hold, and 4 bytes hold the answer
+pub record Fits (divisor : ℕ) (terms : List Term) (pu pv : List ℤ) : Type 0 where
+  pub room : Room terms pu pv
+  pub fits : SFits w32 (equationOf divisor terms pu pv)
+
+-- of all equations of a datum
+abbrev pub AllFit : Family Equation → List ℤ → List ℤ → Type 0
+AllFit equations pu pv = Each (λ e. Fits (e .divisor) (e .terms) pu pv) equations
+
+-- of an axis: factor and offset are so small that 64 bits hold what is divided, of every 4-byte number
+pub record Close (axis : Axis) : Type 0 where
+  pub factor : natAbs (axis .factor) ≤ 1000000000
+  pub offset : natAbs (axis .offset) ≤ 1000000000000000000

@@ -1,7 +1,7 @@
 -- Code 5, Kandawala, geoid heights: document 000, Table 23.21; the area is document 01's.
 use mathlib.Core.List.{List, [], _∷_}
 use Rattle.equation.specs.Equation.{Term, plus_U^_V^_, minus_U^_V^_}
-use Rattle.tables.specs.Page.{Page, geoid, at}
+use Rattle.tables.specs.Page.{Page, geoid, _near_, _from_, at}
 
 abbrev pub n : List Term
 n =
@@ -18,12 +18,11 @@ n =
 
 abbrev pub kandawala : Page
 kandawala = record {
-  latitude = at 7 0;
-  longitude = at 80 0;
-  k = 52359877;
+  u = 52359877 from at 7 0;
+  v = 52359877 from at 80 0;
+  equations = geoid (n near 504);
   south = at 5 50;
   north = at 9 55;
   west = at 79 30;
   east = at 82 0;
-  equations = geoid n;
 }

@@ -7,5 +7,4 @@ pub mod Kandawala
 pub mod Nahrwan
 pub mod Rule
 pub mod Tables
-pub mod Cases
 pub mod Inside

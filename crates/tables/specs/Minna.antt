@@ -1,7 +1,7 @@
 -- Code 2, Minna: document 000, Table 20.29; the area is document 01's.
 use mathlib.Core.List.{List, [], _∷_}
 use Rattle.equation.specs.Equation.{Term, plus_U^_V^_, minus_U^_V^_}
-use Rattle.tables.specs.Page.{Page, shift, at}
+use Rattle.tables.specs.Page.{Page, shift, _near_, _from_, at}
 
 abbrev pub dLat : List Term
 dLat =
@@ -51,12 +51,11 @@ dH =
 
 abbrev pub minna : Page
 minna = record {
-  latitude = at 10 0;
-  longitude = at 8 0;
-  k = 15707963;
+  u = 15707963 from at 10 0;
+  v = 15707963 from at 8 0;
+  equations = shift (dLat near 1252) (dLon near 527) (dH near 510);
   south = at 4 0;
   north = at 14 0;
   west = at 2 30;
   east = at 14 45;
-  equations = shift dLat dLon dH;
 }

@@ -1,7 +1,7 @@
 -- Code 6, Nahrwan, geoid heights: document 000, Table 23.27; the area is document 01's.
 use mathlib.Core.List.{List, [], _∷_}
 use Rattle.equation.specs.Equation.{Term, plus_U^_V^_, minus_U^_V^_}
-use Rattle.tables.specs.Page.{Page, geoid, at}
+use Rattle.tables.specs.Page.{Page, geoid, _near_, _from_, at}
 
 abbrev pub n : List Term
 n =
@@ -16,12 +16,11 @@ n =
 
 abbrev pub nahrwan : Page
 nahrwan = record {
-  latitude = at 23 0;
-  longitude = at 57 0;
-  k = 41887902;
+  u = 41887902 from at 23 0;
+  v = 41887902 from at 57 0;
+  equations = geoid (n near 501);
   south = at 20 0;
   north = at 26 15;
   west = at 51 0;
   east = at 59 0;
-  equations = geoid n;
 }

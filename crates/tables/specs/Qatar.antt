@@ -1,7 +1,7 @@
 -- Code 4, Qatar National: document 000, Table 20.41; the area is document 01's.
 use mathlib.Core.List.{List, [], _∷_}
 use Rattle.equation.specs.Equation.{Term, plus_U^_V^_, minus_U^_V^_}
-use Rattle.tables.specs.Page.{Page, shift, at}
+use Rattle.tables.specs.Page.{Page, shift, _near_, _from_, at}
 
 abbrev pub dLat : List Term
 dLat =
@@ -42,12 +42,11 @@ dH =
 
 abbrev pub qatar : Page
 qatar = record {
-  latitude = at 25 0;
-  longitude = at 51 0;
-  k = 104719754;
+  u = 104719754 from at 25 0;
+  v = 104719754 from at 51 0;
+  equations = shift (dLat near 504) (dLon near 537) (dH near 503);
   south = at 24 20;
   north = at 26 15;
   west = at 50 40;
   east = at 51 45;
-  equations = shift dLat dLon dH;
 }

@@ -1,32 +1,42 @@
 -- Document 01, 'The six areas' and 'The working rule': the area of a page, and what the page gives for a point of it.
-use mathlib.Core.Bool.{Bool, _&&_}
+use mathlib.Core.Bool.{Bool, cond, _&&_}
 use mathlib.Core.List.{List}
 use lib.IntN.{ℤ, pos, _-ℤ_, _*ℤ_}
+use lib.Signed.{leZ}
 use Rattle.whole.specs.Round.{roundDiv, scale}
-use Rattle.kinds.specs.Kinds.{within}
+use Rattle.kinds.specs.Kinds.{within, isPosition}
 use Rattle.equation.specs.Powers.{powersOf}
-use Rattle.equation.specs.Equation.{Term, equationOf}
-use Rattle.tables.specs.Page.{Page, Family, ofEach}
+use Rattle.equation.specs.Equation.{equationOf}
+use Rattle.tables.specs.Page.{Page, Axis, Equation, Family, ofEach}
 
--- the area: both ends belong to it
+-- ---- the area
+-- a longitude as the page counts it: less a turn, where it is not west of the west end even then
+abbrev pub longitudeOn : Page → ℤ → ℤ
+longitudeOn page longitude = cond (leZ (page .west) (longitude -ℤ pos 1296000000)) (longitude -ℤ pos 1296000000) longitude
+
+-- both ends belong to the box
+abbrev pub inBox : Page → ℤ → ℤ → Bool
+inBox page latitude longitude = within (page .south) (page .north) latitude && within (page .west) (page .east) (longitudeOn page longitude)
+
+-- the area: the positions of the box
 abbrev pub inArea : Page → ℤ → ℤ → Bool
-inArea page latitude longitude = within (pos (page .south)) (pos (page .north)) latitude && within (pos (page .west)) (pos (page .east)) longitude
+inArea page latitude longitude = isPosition latitude longitude && inBox page latitude longitude
 
 -- ---- the working rule
--- 1. K times the latitude less the centre's, divided by 3,600,000 and rounded; longitude likewise
-abbrev pub fromCentre : ℤ → ℤ → ℤ → ℤ
-fromCentre k centre x = roundDiv (k *ℤ (x -ℤ centre)) 3600000
+-- 1. u of a latitude, or v of a longitude
+abbrev pub along : Axis → ℤ → ℤ
+along axis x = roundDiv (pos (axis .factor) *ℤ x -ℤ axis .offset) (axis .divisor)
 
 -- 2. the ten powers of u and of v
 abbrev pub powersU : Page → ℤ → List ℤ
-powersU page latitude = powersOf scale (fromCentre (pos (page .k)) (pos (page .latitude)) latitude) 10
+powersU page latitude = powersOf scale (along (page .u) latitude) 10
 
 abbrev pub powersV : Page → ℤ → List ℤ
-powersV page longitude = powersOf scale (fromCentre (pos (page .k)) (pos (page .longitude)) longitude) 10
+powersV page longitude = powersOf scale (along (page .v) (longitudeOn page longitude)) 10
 
 -- 3. and 4. each equation: dLat and dLon in 0.00001", dH and N in mm
-abbrev pub evaluated : Family (List Term) → List ℤ → List ℤ → Family ℤ
-evaluated equations pu pv = ofEach (λ terms. equationOf scale terms pu pv) equations
+abbrev pub evaluated : Family Equation → List ℤ → List ℤ → Family ℤ
+evaluated equations pu pv = ofEach (λ e. equationOf (e .divisor) (e .terms) pu pv) equations
 
 abbrev pub worked : Page → ℤ → ℤ → Family ℤ
 worked page latitude longitude = evaluated (page .equations) (powersU page latitude) (powersV page longitude)

@@ -1,13 +1,14 @@
 -- Document 01, 'The six areas': the six pages, how many terms the equations have, how the tables stand, and where the areas end.
 use mathlib.Core.Bool.{Bool, true, not, _&&_, _||_}
 use mathlib.Core.List.{List, [], _∷_, Perm}
-use Prim.Native.Nat.{ℕ, _+_, _-_}
+use mathlib.Core.Path.{_≡_}
+use Prim.Native.Nat.{ℕ, _+_}
 use lib.Dec.{eqb, ltb}
-use lib.IntN.{pos}
+use lib.IntN.{pos, _+ℤ_, _-ℤ_}
 use lib.ListN.{length}
-use Rattle.kinds.specs.Kinds.{isLatitude, isLongitude}
+use Rattle.kinds.specs.Kinds.{isPosition}
 use Rattle.equation.specs.Equation.{Term, term, amongTen}
-use Rattle.tables.specs.Page.{Page, Family, shift, geoid, ofEach, Paired}
+use Rattle.tables.specs.Page.{Page, Equation, Family, shift, geoid, ofEach, Paired}
 use Rattle.tables.specs.Rule.{inArea}
 use Rattle.tables.specs.Cyprus.{cyprus}
 use Rattle.tables.specs.Minna.{minna}
@@ -21,12 +22,12 @@ abbrev pub pages : List Page
 pages = cyprus ∷ minna ∷ alaska ∷ qatar ∷ kandawala ∷ nahrwan ∷ []
 
 -- the terms of each equation, with the constant
-abbrev pub counted : Family (List Term) → Family ℕ
-counted = ofEach length
+abbrev pub termsOf : Family Equation → Family ℕ
+termsOf = ofEach (λ e. length (e .terms))
 
 abbrev pub inAll : List Page → ℕ
 inAll [] = 0
-inAll (page ∷ rest) = total (counted (page .equations)) + inAll rest
+inAll (page ∷ rest) = total (termsOf (page .equations)) + inAll rest
   where
     total : Family ℕ → ℕ
     total (shift a b c) = a + b + c
@@ -41,21 +42,17 @@ stands [] = true
 stands (t ∷ []) = amongTen t
 stands (s ∷ t ∷ ts) = amongTen s && (before s t && stands (t ∷ ts))
 
--- the same terms in another order
-abbrev pub Reordered : Family (List Term) → Family (List Term) → Type 0
-Reordered = Paired Perm
+-- the same terms in another order, and the same divisors
+abbrev pub Reordered : Family Equation → Family Equation → Type 0
+Reordered = Paired (λ e f. Perm (e .terms) (f .terms) × (e .divisor ≡ f .divisor))
 
 -- two corners of the area are in it, and what is 1 ms outside an end is not
 abbrev pub ends : Page → Bool
 ends page =
-    inArea page (pos (page .south)) (pos (page .west)) && inArea page (pos (page .north)) (pos (page .east))
-    && not (inArea page (pos (page .south - 1)) (pos (page .west)))
-    && not (inArea page (pos (page .north + 1)) (pos (page .east)))
-    && not (inArea page (pos (page .south)) (pos (page .west - 1)))
-    && not (inArea page (pos (page .north)) (pos (page .east + 1)))
+    inArea page (page .south) (page .west) && inArea page (page .north) (page .east)
+    && not (inArea page (page .south -ℤ pos 1) (page .west)) && not (inArea page (page .north +ℤ pos 1) (page .east))
+    && not (inArea page (page .south) (page .west -ℤ pos 1)) && not (inArea page (page .north) (page .east +ℤ pos 1))
 
 -- its ends are latitudes and longitudes
 abbrev pub areaInRange : Page → Bool
-areaInRange page =
-    (isLatitude (pos (page .south)) && isLatitude (pos (page .north)))
-    && (isLongitude (pos (page .west)) && isLongitude (pos (page .east)))
+areaInRange page = isPosition (page .south) (page .west) && isPosition (page .north) (page .east)

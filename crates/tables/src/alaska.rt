@@ -1,18 +1,26 @@
 // Code 3, NAD 27 (Alaska): document 000, Table 20.31. Each table stands by rising power of V, then of U.
+use super::Axis;
 use super::Frame;
-use super::Shifts;
+use super::Values;
 use kinds::LocalLatitude;
 ghost use mathlib.Core.Path.{_≡_};
-ghost use Rattle.whole.specs.Round.{scale};
-ghost use Rattle.equation.specs.Equation.{equationOf};
-ghost use Rattle.tables.specs.Inside.{TableFits};
-ghost use Rattle.tables.specs.Alaska.{dLat, dLon, dH};
+ghost use Rattle.tables.specs.Rule.{evaluated};
+ghost use Rattle.tables.specs.Inside.{Say, AllFit};
+ghost use Rattle.tables.specs.Alaska.{alaska};
 
 // U = K (φ - 62), V = K (λ - 208), K = 0.10471975; the area is document 01's.
+const K: i64 = 10_471_975;
+
 pub(crate) const FRAME: Frame = Frame {
-    latitude: 62 * LocalLatitude::DEGREE,
-    longitude: 208 * LocalLatitude::DEGREE,
-    k: 10_471_975,
+    geoid: false,
+    u: Axis {
+        factor: K,
+        offset: K * 62 * LocalLatitude::DEGREE,
+    },
+    v: Axis {
+        factor: K,
+        offset: K * 208 * LocalLatitude::DEGREE,
+    },
     south: 54 * LocalLatitude::DEGREE,
     north: 72 * LocalLatitude::DEGREE,
     west: 190 * LocalLatitude::DEGREE,
@@ -235,13 +243,13 @@ const HEIGHT_V: [u8; 17] = [
     9, // UV^9
 ];
 
-pub(crate) fn shift(pu: [i64; 10], pv: [i64; 10]) -> Shifts
-    requires { ⌜ TableFits dLat pu pv × TableFits dLon pu pv × TableFits dH pu pv ⌝ }
-    ensures { λ r. ⌜ (r .latitude .0 ≡ equationOf scale dLat pu pv) × (r .longitude .0 ≡ equationOf scale dLon pu pv) × (r .height .0 ≡ equationOf scale dH pu pv) ⌝ }
+pub(crate) fn values(pu: [i64; 10], pv: [i64; 10]) -> Values
+    requires { ⌜ AllFit (alaska .equations) pu pv ⌝ }
+    ensures { λ r. ⌜ Say r (evaluated (alaska .equations) pu pv) ⌝ }
 {
-    Shifts {
-        latitude: super::angle(&LATITUDE, &LATITUDE_U, &LATITUDE_V, pu, pv),
-        longitude: super::angle(&LONGITUDE, &LONGITUDE_U, &LONGITUDE_V, pu, pv),
-        height: super::height(&HEIGHT, &HEIGHT_U, &HEIGHT_V, pu, pv),
+    Values {
+        first: super::value(&LATITUDE, &LATITUDE_U, &LATITUDE_V, pu, pv),
+        second: super::value(&LONGITUDE, &LONGITUDE_U, &LONGITUDE_V, pu, pv),
+        third: super::value(&HEIGHT, &HEIGHT_U, &HEIGHT_V, pu, pv),
     }
 }

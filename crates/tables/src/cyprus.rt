@@ -1,18 +1,26 @@
 // Code 1, ED 50 (Cyprus): document 000, Table 20.16. Each table stands by rising power of V, then of U.
+use super::Axis;
 use super::Frame;
-use super::Shifts;
+use super::Values;
 use kinds::LocalLatitude;
 ghost use mathlib.Core.Path.{_≡_};
-ghost use Rattle.whole.specs.Round.{scale};
-ghost use Rattle.equation.specs.Equation.{equationOf};
-ghost use Rattle.tables.specs.Inside.{TableFits};
-ghost use Rattle.tables.specs.Cyprus.{dLat, dLon, dH};
+ghost use Rattle.tables.specs.Rule.{evaluated};
+ghost use Rattle.tables.specs.Inside.{Say, AllFit};
+ghost use Rattle.tables.specs.Cyprus.{cyprus};
 
 // U = K (φ - 35), V = K (λ - 33), K = 0.78539816; the area is document 01's.
+const K: i64 = 78_539_816;
+
 pub(crate) const FRAME: Frame = Frame {
-    latitude: 35 * LocalLatitude::DEGREE,
-    longitude: 33 * LocalLatitude::DEGREE,
-    k: 78_539_816,
+    geoid: false,
+    u: Axis {
+        factor: K,
+        offset: K * 35 * LocalLatitude::DEGREE,
+    },
+    v: Axis {
+        factor: K,
+        offset: K * 33 * LocalLatitude::DEGREE,
+    },
     south: 34 * LocalLatitude::DEGREE + 30 * LocalLatitude::MINUTE,
     north: 35 * LocalLatitude::DEGREE + 45 * LocalLatitude::MINUTE,
     west: 32 * LocalLatitude::DEGREE + 10 * LocalLatitude::MINUTE,
@@ -66,13 +74,13 @@ const HEIGHT_U: [u8; 11] = [0, 1, 2, 0, 1, 2, 3, 4, 9, 0, 4];
 
 const HEIGHT_V: [u8; 11] = [0, 0, 0, 1, 1, 1, 1, 1, 2, 3, 9];
 
-pub(crate) fn shift(pu: [i64; 10], pv: [i64; 10]) -> Shifts
-    requires { ⌜ TableFits dLat pu pv × TableFits dLon pu pv × TableFits dH pu pv ⌝ }
-    ensures { λ r. ⌜ (r .latitude .0 ≡ equationOf scale dLat pu pv) × (r .longitude .0 ≡ equationOf scale dLon pu pv) × (r .height .0 ≡ equationOf scale dH pu pv) ⌝ }
+pub(crate) fn values(pu: [i64; 10], pv: [i64; 10]) -> Values
+    requires { ⌜ AllFit (cyprus .equations) pu pv ⌝ }
+    ensures { λ r. ⌜ Say r (evaluated (cyprus .equations) pu pv) ⌝ }
 {
-    Shifts {
-        latitude: super::angle(&LATITUDE, &LATITUDE_U, &LATITUDE_V, pu, pv),
-        longitude: super::angle(&LONGITUDE, &LONGITUDE_U, &LONGITUDE_V, pu, pv),
-        height: super::height(&HEIGHT, &HEIGHT_U, &HEIGHT_V, pu, pv),
+    Values {
+        first: super::value(&LATITUDE, &LATITUDE_U, &LATITUDE_V, pu, pv),
+        second: super::value(&LONGITUDE, &LONGITUDE_U, &LONGITUDE_V, pu, pv),
+        third: super::value(&HEIGHT, &HEIGHT_U, &HEIGHT_V, pu, pv),
     }
 }

@@ -1,18 +1,26 @@
 // Code 5, Kandawala, geoid heights: document 000, Table 23.21. Each table stands by rising power of V, then of U.
+use super::Axis;
 use super::Frame;
-use kinds::Height;
+use super::Values;
 use kinds::LocalLatitude;
 ghost use mathlib.Core.Path.{_≡_};
-ghost use Rattle.whole.specs.Round.{scale};
-ghost use Rattle.equation.specs.Equation.{equationOf};
-ghost use Rattle.tables.specs.Inside.{TableFits};
-ghost use Rattle.tables.specs.Kandawala.{n};
+ghost use Rattle.tables.specs.Rule.{evaluated};
+ghost use Rattle.tables.specs.Inside.{Say, AllFit};
+ghost use Rattle.tables.specs.Kandawala.{kandawala};
 
 // U = K (φ - 7), V = K (λ - 80), K = 0.52359877; the area is document 01's.
+const K: i64 = 52_359_877;
+
 pub(crate) const FRAME: Frame = Frame {
-    latitude: 7 * LocalLatitude::DEGREE,
-    longitude: 80 * LocalLatitude::DEGREE,
-    k: 52_359_877,
+    geoid: true,
+    u: Axis {
+        factor: K,
+        offset: K * 7 * LocalLatitude::DEGREE,
+    },
+    v: Axis {
+        factor: K,
+        offset: K * 80 * LocalLatitude::DEGREE,
+    },
     south: 5 * LocalLatitude::DEGREE + 50 * LocalLatitude::MINUTE,
     north: 9 * LocalLatitude::DEGREE + 55 * LocalLatitude::MINUTE,
     west: 79 * LocalLatitude::DEGREE + 30 * LocalLatitude::MINUTE,
@@ -37,9 +45,13 @@ const HEIGHT_U: [u8; 9] = [0, 1, 2, 3, 2, 7, 0, 4, 2];
 
 const HEIGHT_V: [u8; 9] = [0, 0, 0, 0, 1, 2, 3, 3, 9];
 
-pub(crate) fn geoid(pu: [i64; 10], pv: [i64; 10]) -> Height
-    requires { ⌜ TableFits n pu pv ⌝ }
-    ensures { λ r. ⌜ r .0 ≡ equationOf scale n pu pv ⌝ }
+pub(crate) fn values(pu: [i64; 10], pv: [i64; 10]) -> Values
+    requires { ⌜ AllFit (kandawala .equations) pu pv ⌝ }
+    ensures { λ r. ⌜ Say r (evaluated (kandawala .equations) pu pv) ⌝ }
 {
-    super::height(&HEIGHT, &HEIGHT_U, &HEIGHT_V, pu, pv)
+    Values {
+        first: super::value(&HEIGHT, &HEIGHT_U, &HEIGHT_V, pu, pv),
+        second: 0,
+        third: 0,
+    }
 }

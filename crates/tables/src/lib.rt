@@ -1,4 +1,4 @@
-// Document 000: the tables, centres and K of six datums, a file each, and their areas; what each gives by the powers of u and v.
+// Document 000: u, v and the tables of six datums, a file each, and their areas; what each gives by the powers of u and v.
 mod alaska;
 mod cyprus;
 mod kandawala;
@@ -6,119 +6,155 @@ mod minna;
 mod nahrwan;
 mod qatar;
 
-use equation::equation;
-use kinds::AngleShift;
-use kinds::Height;
+use kinds::LocalLatitude;
+use kinds::LocalLongitude;
+use kinds::LocalPosition;
+use kinds::within;
+use whole::Parts;
 ghost use mathlib.Core.Path.{_≡_};
+ghost use mathlib.Core.Bool.{_&&_};
+ghost use Prim.Native.Nat.{_≤_, _<_};
+ghost use lib.IntN.{natAbs};
 ghost use lib.ListN.{length};
 ghost use Rattle.whole.specs.Round.{scale};
+ghost use Rattle.kinds.specs.Kinds.{within};
 ghost use Rattle.equation.specs.Equation.{terms, equationOf};
 ghost use Rattle.tables.specs.Rule.{evaluated};
-ghost use Rattle.tables.specs.Cases.{shiftSays, geoidSays};
-ghost use Rattle.tables.specs.Inside.{shiftPage, geoidPage, frameOf, TableFits, AllFit};
+ghost use Rattle.tables.specs.Inside.{rowOf, datumPage, frameOf, countedFrom, onAxis, Say, Fits, AllFit, Close};
 
-// The shifts of a point from its local datum to WGS 84.
-pub struct Shifts {
-    pub latitude: AngleShift,
-    pub longitude: AngleShift,
-    pub height: Height,
-}
-
-// The datums by family, so that a shift can't be asked of a geoid datum.
-pub enum ShiftDatum {
+pub enum Datum {
     Cyprus,
     Minna,
     Alaska,
     Qatar,
-}
-
-pub enum GeoidDatum {
     Kandawala,
     Nahrwan,
 }
 
-impl ShiftDatum {
-    pub fn frame(self) -> Frame
-        ensures { λ r. ⌜ r ≡ frameOf (shiftPage self) ⌝ }
+// In the order of the datums.
+const FRAMES: [Frame; 6] = [
+    cyprus::FRAME,
+    minna::FRAME,
+    alaska::FRAME,
+    qatar::FRAME,
+    kandawala::FRAME,
+    nahrwan::FRAME,
+];
+
+impl Datum {
+    fn row(self) -> usize
+        ensures { λ r. ⌜ (r ≡ rowOf self) × (r < 6) ⌝ }
     {
         match self {
-            ShiftDatum::Cyprus => cyprus::FRAME,
-            ShiftDatum::Minna => minna::FRAME,
-            ShiftDatum::Alaska => alaska::FRAME,
-            ShiftDatum::Qatar => qatar::FRAME,
+            Datum::Cyprus => 0,
+            Datum::Minna => 1,
+            Datum::Alaska => 2,
+            Datum::Qatar => 3,
+            Datum::Kandawala => 4,
+            Datum::Nahrwan => 5,
         }
     }
 
-    pub fn evaluated(self, pu: [i64; 10], pv: [i64; 10]) -> Shifts
-        requires { ⌜ AllFit (shiftPage self .equations) pu pv ⌝ }
-        ensures { λ r. ⌜ shiftSays r ≡ evaluated (shiftPage self .equations) pu pv ⌝ }
+    pub fn frame(self) -> Frame
+        ensures { λ r. ⌜ r ≡ frameOf (datumPage self) ⌝ }
+    {
+        let row = self.row();
+        FRAMES[row]
+    }
+
+    // What the equations give, by the powers of u and of v.
+    pub fn values(self, pu: [i64; 10], pv: [i64; 10]) -> Values
+        requires { ⌜ AllFit (datumPage self .equations) pu pv ⌝ }
+        ensures { λ r. ⌜ Say r (evaluated (datumPage self .equations) pu pv) ⌝ }
     {
         match self {
-            ShiftDatum::Cyprus => cyprus::shift(pu, pv),
-            ShiftDatum::Minna => minna::shift(pu, pv),
-            ShiftDatum::Alaska => alaska::shift(pu, pv),
-            ShiftDatum::Qatar => qatar::shift(pu, pv),
+            Datum::Cyprus => cyprus::values(pu, pv),
+            Datum::Minna => minna::values(pu, pv),
+            Datum::Alaska => alaska::values(pu, pv),
+            Datum::Qatar => qatar::values(pu, pv),
+            Datum::Kandawala => kandawala::values(pu, pv),
+            Datum::Nahrwan => nahrwan::values(pu, pv),
         }
     }
 }
 
-impl GeoidDatum {
-    pub fn frame(self) -> Frame
-        ensures { λ r. ⌜ r ≡ frameOf (geoidPage self) ⌝ }
-    {
-        match self {
-            GeoidDatum::Kandawala => kandawala::FRAME,
-            GeoidDatum::Nahrwan => nahrwan::FRAME,
-        }
-    }
-
-    pub fn evaluated(self, pu: [i64; 10], pv: [i64; 10]) -> Height
-        requires { ⌜ AllFit (geoidPage self .equations) pu pv ⌝ }
-        ensures { λ r. ⌜ geoidSays r ≡ evaluated (geoidPage self .equations) pu pv ⌝ }
-    {
-        match self {
-            GeoidDatum::Kandawala => kandawala::geoid(pu, pv),
-            GeoidDatum::Nahrwan => nahrwan::geoid(pu, pv),
-        }
-    }
+// The values of a datum as three numbers: dLat, dLon and dH, or N and two zeros.
+pub struct Values {
+    pub first: i32,
+    pub second: i32,
+    pub third: i32,
 }
 
-// The centre and the ends of the area in ms, and K in hundred-millionths.
+// What is particular to a datum but its tables: the family, how u and v come of a position, and the ends of the area in ms.
 pub struct Frame {
-    pub latitude: i64,
-    pub longitude: i64,
-    pub k: i64,
+    pub geoid: bool,
+    pub u: Axis,
+    pub v: Axis,
     pub south: i64,
     pub north: i64,
     pub west: i64,
     pub east: i64,
 }
 
-// One equation, of whose answer 4 bytes are known to be enough.
-pub(crate) fn angle(
-    coefficients: &[i64],
-    us: &[u8],
-    vs: &[u8],
-    pu: [i64; 10],
-    pv: [i64; 10],
-) -> AngleShift
-    requires { ⌜ (length (now us) ≡ length (now coefficients)) × (length (now vs) ≡ length (now coefficients)) ⌝ }
-    requires { ⌜ TableFits (terms (now coefficients) (now us) (now vs)) pu pv ⌝ }
-    ensures { λ r. ⌜ r .0 ≡ equationOf scale (terms (now (coefficients .entry)) (now (us .entry)) (now (vs .entry))) pu pv ⌝ }
-{
-    AngleShift::of(equation(coefficients, us, vs, pu, pv) as i32)
+impl Frame {
+    // Whether a position is in the area, both ends in.
+    pub fn holds(self, position: LocalPosition) -> bool
+        ensures { λ r. ⌜ r ≡ within (self .south) (self .north) (position .latitude .0) && within (self .west) (self .east) (countedFrom (self .west) (position .longitude .0)) ⌝ }
+    {
+        let latitude = position.latitude;
+        let longitude = self.longitude(position);
+        within(self.south, self.north, latitude.ms() as i64) & within(self.west, self.east, longitude)
+    }
+
+    pub fn u_of(self, position: LocalPosition) -> Parts
+        requires { ⌜ Close (self .u) ⌝ }
+        ensures { λ r. ⌜ r .0 ≡ onAxis (self .u) (position .latitude .0) ⌝ }
+    {
+        let latitude = position.latitude;
+        let axis = self.u;
+        axis.along(latitude.ms() as i64)
+    }
+
+    pub fn v_of(self, position: LocalPosition) -> Parts
+        requires { ⌜ Close (self .v) ⌝ }
+        ensures { λ r. ⌜ r .0 ≡ onAxis (self .v) (countedFrom (self .west) (position .longitude .0)) ⌝ }
+    {
+        let longitude = self.longitude(position);
+        let axis = self.v;
+        axis.along(longitude)
+    }
+
+    // The longitude as the page counts it: less a turn, where it is not west of the west end even then.
+    fn longitude(self, position: LocalPosition) -> i64
+        ensures { λ r. ⌜ (r ≡ countedFrom (self .west) (position .longitude .0)) × (natAbs r ≤ 4294967296) ⌝ }
+    {
+        let longitude = position.longitude;
+        let ms = longitude.ms() as i64;
+        let turned = ms - LocalLongitude::TURN;
+        if self.west <= turned { turned } else { ms }
+    }
 }
 
-pub(crate) fn height(
-    coefficients: &[i64],
-    us: &[u8],
-    vs: &[u8],
-    pu: [i64; 10],
-    pv: [i64; 10],
-) -> Height
+// How u or v comes of ms: the factor times them, less the offset, over the ms of a degree.
+pub struct Axis {
+    pub factor: i64,
+    pub offset: i64,
+}
+
+impl Axis {
+    fn along(self, ms: i64) -> Parts
+        requires { ⌜ Close self × (natAbs ms ≤ 4294967296) ⌝ }
+        ensures { λ r. ⌜ r .0 ≡ onAxis self ms ⌝ }
+    {
+        Parts(whole::round_div(self.factor * ms - self.offset, LocalLatitude::DEGREE))
+    }
+}
+
+// One equation whose sum is divided by the scale, and of whose answer 4 bytes are known to be enough.
+pub(crate) fn value(coefficients: &[i64], us: &[u8], vs: &[u8], pu: [i64; 10], pv: [i64; 10]) -> i32
     requires { ⌜ (length (now us) ≡ length (now coefficients)) × (length (now vs) ≡ length (now coefficients)) ⌝ }
-    requires { ⌜ TableFits (terms (now coefficients) (now us) (now vs)) pu pv ⌝ }
-    ensures { λ r. ⌜ r .0 ≡ equationOf scale (terms (now (coefficients .entry)) (now (us .entry)) (now (vs .entry))) pu pv ⌝ }
+    requires { ⌜ Fits scale (terms (now coefficients) (now us) (now vs)) pu pv ⌝ }
+    ensures { λ r. ⌜ r ≡ equationOf scale (terms (now (coefficients .entry)) (now (us .entry)) (now (vs .entry))) pu pv ⌝ }
 {
-    Height::of(equation(coefficients, us, vs, pu, pv) as i32)
+    whole::rounded(equation::sum(coefficients, us, vs, pu, pv)) as i32
 }

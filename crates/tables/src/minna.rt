@@ -1,18 +1,26 @@
 // Code 2, Minna: document 000, Table 20.29. Each table stands by rising power of V, then of U.
+use super::Axis;
 use super::Frame;
-use super::Shifts;
+use super::Values;
 use kinds::LocalLatitude;
 ghost use mathlib.Core.Path.{_≡_};
-ghost use Rattle.whole.specs.Round.{scale};
-ghost use Rattle.equation.specs.Equation.{equationOf};
-ghost use Rattle.tables.specs.Inside.{TableFits};
-ghost use Rattle.tables.specs.Minna.{dLat, dLon, dH};
+ghost use Rattle.tables.specs.Rule.{evaluated};
+ghost use Rattle.tables.specs.Inside.{Say, AllFit};
+ghost use Rattle.tables.specs.Minna.{minna};
 
 // U = K (φ - 10), V = K (λ - 8), K = 0.15707963; the area is document 01's.
+const K: i64 = 15_707_963;
+
 pub(crate) const FRAME: Frame = Frame {
-    latitude: 10 * LocalLatitude::DEGREE,
-    longitude: 8 * LocalLatitude::DEGREE,
-    k: 15_707_963,
+    geoid: false,
+    u: Axis {
+        factor: K,
+        offset: K * 10 * LocalLatitude::DEGREE,
+    },
+    v: Axis {
+        factor: K,
+        offset: K * 8 * LocalLatitude::DEGREE,
+    },
     south: 4 * LocalLatitude::DEGREE,
     north: 14 * LocalLatitude::DEGREE,
     west: 2 * LocalLatitude::DEGREE + 30 * LocalLatitude::MINUTE,
@@ -81,13 +89,13 @@ const HEIGHT_U: [u8; 9] = [0, 1, 0, 2, 4, 5, 2, 0, 3];
 
 const HEIGHT_V: [u8; 9] = [0, 0, 1, 1, 1, 1, 3, 5, 8];
 
-pub(crate) fn shift(pu: [i64; 10], pv: [i64; 10]) -> Shifts
-    requires { ⌜ TableFits dLat pu pv × TableFits dLon pu pv × TableFits dH pu pv ⌝ }
-    ensures { λ r. ⌜ (r .latitude .0 ≡ equationOf scale dLat pu pv) × (r .longitude .0 ≡ equationOf scale dLon pu pv) × (r .height .0 ≡ equationOf scale dH pu pv) ⌝ }
+pub(crate) fn values(pu: [i64; 10], pv: [i64; 10]) -> Values
+    requires { ⌜ AllFit (minna .equations) pu pv ⌝ }
+    ensures { λ r. ⌜ Say r (evaluated (minna .equations) pu pv) ⌝ }
 {
-    Shifts {
-        latitude: super::angle(&LATITUDE, &LATITUDE_U, &LATITUDE_V, pu, pv),
-        longitude: super::angle(&LONGITUDE, &LONGITUDE_U, &LONGITUDE_V, pu, pv),
-        height: super::height(&HEIGHT, &HEIGHT_U, &HEIGHT_V, pu, pv),
+    Values {
+        first: super::value(&LATITUDE, &LATITUDE_U, &LATITUDE_V, pu, pv),
+        second: super::value(&LONGITUDE, &LONGITUDE_U, &LONGITUDE_V, pu, pv),
+        third: super::value(&HEIGHT, &HEIGHT_U, &HEIGHT_V, pu, pv),
     }
 }

@@ -1,18 +1,26 @@
 // Code 6, Nahrwan, geoid heights: document 000, Table 23.27. Each table stands by rising power of V, then of U.
+use super::Axis;
 use super::Frame;
-use kinds::Height;
+use super::Values;
 use kinds::LocalLatitude;
 ghost use mathlib.Core.Path.{_≡_};
-ghost use Rattle.whole.specs.Round.{scale};
-ghost use Rattle.equation.specs.Equation.{equationOf};
-ghost use Rattle.tables.specs.Inside.{TableFits};
-ghost use Rattle.tables.specs.Nahrwan.{n};
+ghost use Rattle.tables.specs.Rule.{evaluated};
+ghost use Rattle.tables.specs.Inside.{Say, AllFit};
+ghost use Rattle.tables.specs.Nahrwan.{nahrwan};
 
 // U = K (φ - 23), V = K (λ - 57), K = 0.41887902; the area is document 01's.
+const K: i64 = 41_887_902;
+
 pub(crate) const FRAME: Frame = Frame {
-    latitude: 23 * LocalLatitude::DEGREE,
-    longitude: 57 * LocalLatitude::DEGREE,
-    k: 41_887_902,
+    geoid: true,
+    u: Axis {
+        factor: K,
+        offset: K * 23 * LocalLatitude::DEGREE,
+    },
+    v: Axis {
+        factor: K,
+        offset: K * 57 * LocalLatitude::DEGREE,
+    },
     south: 20 * LocalLatitude::DEGREE,
     north: 26 * LocalLatitude::DEGREE + 15 * LocalLatitude::MINUTE,
     west: 51 * LocalLatitude::DEGREE,
@@ -34,9 +42,13 @@ const HEIGHT_U: [u8; 7] = [0, 1, 2, 3, 0, 0, 0];
 
 const HEIGHT_V: [u8; 7] = [0, 0, 0, 0, 1, 2, 3];
 
-pub(crate) fn geoid(pu: [i64; 10], pv: [i64; 10]) -> Height
-    requires { ⌜ TableFits n pu pv ⌝ }
-    ensures { λ r. ⌜ r .0 ≡ equationOf scale n pu pv ⌝ }
+pub(crate) fn values(pu: [i64; 10], pv: [i64; 10]) -> Values
+    requires { ⌜ AllFit (nahrwan .equations) pu pv ⌝ }
+    ensures { λ r. ⌜ Say r (evaluated (nahrwan .equations) pu pv) ⌝ }
 {
-    super::height(&HEIGHT, &HEIGHT_U, &HEIGHT_V, pu, pv)
+    Values {
+        first: super::value(&HEIGHT, &HEIGHT_U, &HEIGHT_V, pu, pv),
+        second: 0,
+        third: 0,
+    }
 }

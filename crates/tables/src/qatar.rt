@@ -1,18 +1,26 @@
 // Code 4, Qatar National: document 000, Table 20.41. Each table stands by rising power of V, then of U.
+use super::Axis;
 use super::Frame;
-use super::Shifts;
+use super::Values;
 use kinds::LocalLatitude;
 ghost use mathlib.Core.Path.{_≡_};
-ghost use Rattle.whole.specs.Round.{scale};
-ghost use Rattle.equation.specs.Equation.{equationOf};
-ghost use Rattle.tables.specs.Inside.{TableFits};
-ghost use Rattle.tables.specs.Qatar.{dLat, dLon, dH};
+ghost use Rattle.tables.specs.Rule.{evaluated};
+ghost use Rattle.tables.specs.Inside.{Say, AllFit};
+ghost use Rattle.tables.specs.Qatar.{qatar};
 
 // U = K (φ - 25), V = K (λ - 51), K = 1.04719754; the area is document 01's.
+const K: i64 = 104_719_754;
+
 pub(crate) const FRAME: Frame = Frame {
-    latitude: 25 * LocalLatitude::DEGREE,
-    longitude: 51 * LocalLatitude::DEGREE,
-    k: 104_719_754,
+    geoid: false,
+    u: Axis {
+        factor: K,
+        offset: K * 25 * LocalLatitude::DEGREE,
+    },
+    v: Axis {
+        factor: K,
+        offset: K * 51 * LocalLatitude::DEGREE,
+    },
     south: 24 * LocalLatitude::DEGREE + 20 * LocalLatitude::MINUTE,
     north: 26 * LocalLatitude::DEGREE + 15 * LocalLatitude::MINUTE,
     west: 50 * LocalLatitude::DEGREE + 40 * LocalLatitude::MINUTE,
@@ -69,13 +77,13 @@ const HEIGHT_U: [u8; 9] = [0, 1, 2, 8, 9, 0, 3, 0, 1];
 
 const HEIGHT_V: [u8; 9] = [0, 0, 0, 0, 0, 2, 3, 7, 8];
 
-pub(crate) fn shift(pu: [i64; 10], pv: [i64; 10]) -> Shifts
-    requires { ⌜ TableFits dLat pu pv × TableFits dLon pu pv × TableFits dH pu pv ⌝ }
-    ensures { λ r. ⌜ (r .latitude .0 ≡ equationOf scale dLat pu pv) × (r .longitude .0 ≡ equationOf scale dLon pu pv) × (r .height .0 ≡ equationOf scale dH pu pv) ⌝ }
+pub(crate) fn values(pu: [i64; 10], pv: [i64; 10]) -> Values
+    requires { ⌜ AllFit (qatar .equations) pu pv ⌝ }
+    ensures { λ r. ⌜ Say r (evaluated (qatar .equations) pu pv) ⌝ }
 {
-    Shifts {
-        latitude: super::angle(&LATITUDE, &LATITUDE_U, &LATITUDE_V, pu, pv),
-        longitude: super::angle(&LONGITUDE, &LONGITUDE_U, &LONGITUDE_V, pu, pv),
-        height: super::height(&HEIGHT, &HEIGHT_U, &HEIGHT_V, pu, pv),
+    Values {
+        first: super::value(&LATITUDE, &LATITUDE_U, &LATITUDE_V, pu, pv),
+        second: super::value(&LONGITUDE, &LONGITUDE_U, &LONGITUDE_V, pu, pv),
+        third: super::value(&HEIGHT, &HEIGHT_U, &HEIGHT_V, pu, pv),
     }
 }

@@ -1,6 +1,8 @@
--- Tests joined by `&&` and `||`, and by their two cases. Assumes nothing.
-use mathlib.Core.Path.{_≡_, refl}
-use mathlib.Core.Bool.{Bool, true, false, _&&_, _||_, false≢true}
+-- Tests joined by `&&` and `||`, by their two cases, and one beside another. Assumes nothing.
+use mathlib.Core.Path.{_≡_, refl, sym}
+use mathlib.Core.Bool.{Bool, true, false, not, _&&_, _||_, false≢true}
+use lib.Dec.{T}
+use mir.Facts.{and-yes}
 
 -- what holds of both holds of each
 pub both : (a b : Bool) → (a && b) ≡ true → (a ≡ true) × (b ≡ true)
@@ -20,3 +22,29 @@ either false b h f g = g h
 pub by-test : {P : Type 0} (a : Bool) → (a ≡ true → P) → (a ≡ false → P) → P
 by-test true f g = f refl
 by-test false f g = g refl
+
+-- three tests that were computed together
+pub three : (a b c : Bool) → T (a && (b && c)) → T a × T b × T c
+three a b c h =
+    let p = and-yes a (b && c) h in
+    let q = and-yes b c (p .1) in
+    (p .0, q .0, q .1)
+
+-- what does not hold, and two tests that say the same
+pub not-so : (b : Bool) → not b ≡ true → b ≡ false
+not-so true h = absurd (false≢true h)
+not-so false h = refl
+
+pub not-not-so : (b : Bool) → not b ≡ false → b ≡ true
+not-not-so true h = refl
+not-not-so false h = absurd (false≢true (sym h))
+
+abbrev pub alike : Bool → Bool → Bool
+alike true b = b
+alike false b = not b
+
+pub alike-is : (a b : Bool) → T (alike a b) → a ≡ b
+alike-is true true h = refl
+alike-is false false h = refl
+alike-is true false h = absurd h
+alike-is false true h = absurd h

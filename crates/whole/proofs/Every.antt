@@ -1,10 +1,12 @@
--- A test of every one of a list: of one, of a part, of two together, of a weaker test, of the same test said otherwise. Assumes nothing.
+-- A test of every one of a list: of one, of one at any place, of a part, of two together, of a weaker test, of the same test said otherwise. Assumes nothing.
 use mathlib.Core.Path.{_≡_, refl}
 use mathlib.Core.Bool.{Bool, true, _&&_}
-use mathlib.Core.List.{List, [], _∷_, _++_}
+use mathlib.Core.List.{List, [], _∷_, _++_, map}
 use Prim.Native.Nat.{ℕ, zero, suc, _<_}
 use native.Mathlib.Omega.{arith}
+use lib.Dec.{T}
 use lib.ListN.{length, take, drop, getD}
+use mir.Facts.{and-yes}
 use Rattle.whole.specs.Every.{every}
 use Rattle.whole.proofs.Bools.{both, joined}
 
@@ -41,3 +43,19 @@ module _ {A : Type 0} (f : A → Bool) where
   pub every-same : (g : A → Bool) → ((x : A) → f x ≡ g x) → (l : List A) → every f l ≡ every g l
   every-same g h [] = refl
   every-same g h (x ∷ l) = λ i. h x i && every-same g h l i
+
+-- of a list that is not empty, with its first for what is not there: what every one passes, the one at any place does
+pub every-place : {A : Type 0} (f : A → Bool) (first : A) (rest : List A) → T (every f (first ∷ rest)) → (n : ℕ) → T (f (getD (first ∷ rest) n first))
+every-place f first rest h zero = and-yes (f first) (every f rest) h .0
+every-place {A} f first rest h (suc n) = behind rest (and-yes (f first) (every f rest) h .1) n
+  where
+    behind : (l : List A) → T (every f l) → (n : ℕ) → T (f (getD l n first))
+    behind [] k n = and-yes (f first) (every f rest) h .0
+    behind (x ∷ l) k zero = and-yes (f x) (every f l) k .0
+    behind (x ∷ l) k (suc n) = behind l (and-yes (f x) (every f l) k .1) n
+
+-- ---- the one at a place of a list that was worked out of another
+pub getD-map : {A B : Type 0} (f : A → B) (l : List A) (none : B) (other : A) (n : ℕ) → n < length l → getD (map f l) n none ≡ f (getD l n other)
+getD-map f [] none other n h = absurd (omega arith)
+getD-map f (x ∷ l) none other zero h = refl
+getD-map f (x ∷ l) none other (suc n) h = getD-map f l none other n (omega arith)

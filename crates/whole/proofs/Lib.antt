@@ -7,6 +7,8 @@ pub mod Sizes
 pub mod Signs
 -- rounded division: within half, exact, in order, and by the remainder
 pub mod Rounding
+-- the order: a multiple keeps it, and what lies between two is no larger than the larger
+pub mod Orders
 -- signed words at any width: operations, tests, casts, ranges
 pub mod Words
 -- a signed word divided, and rounded

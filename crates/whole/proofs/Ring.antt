@@ -16,11 +16,11 @@ use lib.Dec.{T, ltb, ltb→lt, nltb→le}
 use lib.IntN.{ℤ, pos, negsuc, negℤ, subℕ, _+ℤ_, _-ℤ_, _*ℤ_}
 
 -- ---- what lies above zero, and what lies below
-abbrev up : ℤ → ℕ
+abbrev pub up : ℤ → ℕ
 up (pos n) = n
 up (negsuc n) = zero
 
-abbrev down : ℤ → ℕ
+abbrev pub down : ℤ → ℕ
 down (pos n) = zero
 down (negsuc n) = suc n
 
@@ -40,18 +40,18 @@ sub-is a b =
     (λ t. let h : a < b = ltb→lt a b t in omega arith)
     (λ t. let h : b ≤ a = nltb→le a b t in omega arith)
 
-add-is : (x y : ℤ) → up (x +ℤ y) + (down x + down y) ≡ down (x +ℤ y) + (up x + up y)
+pub add-is : (x y : ℤ) → up (x +ℤ y) + (down x + down y) ≡ down (x +ℤ y) + (up x + up y)
 add-is (pos a) (pos b) = omega arith
 add-is (pos a) (negsuc b) = omega (arith, sub-is a (suc b))
 add-is (negsuc a) (pos b) = omega (arith, sub-is b (suc a))
 add-is (negsuc a) (negsuc b) = omega arith
 
-neg-is : (x : ℤ) → up (negℤ x) + up x ≡ down (negℤ x) + down x
+pub neg-is : (x : ℤ) → up (negℤ x) + up x ≡ down (negℤ x) + down x
 neg-is (pos zero) = omega arith
 neg-is (pos (suc n)) = omega arith
 neg-is (negsuc n) = omega arith
 
-mul-is : (x y : ℤ) → up (x *ℤ y) + (up x * down y + down x * up y) ≡ down (x *ℤ y) + (up x * up y + down x * down y)
+pub mul-is : (x y : ℤ) → up (x *ℤ y) + (up x * down y + down x * up y) ≡ down (x *ℤ y) + (up x * up y + down x * down y)
 mul-is (pos a) (pos b) = omega arith
 mul-is (pos a) (negsuc b) = omega (arith, neg-is (pos (a * suc b)))
 mul-is (negsuc a) (pos b) = omega (arith, neg-is (pos (suc a * b)))

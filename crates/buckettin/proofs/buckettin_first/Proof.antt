@@ -3,7 +3,7 @@ use mathlib.Core.Path.{_∙_}
 use lib.IntN.{ℤ}
 use Rattle.datum.specs.Point.{firstOf}
 use Rattle.floating.specs.Floats.{floatingOf, floatZero}
-use Rattle.floating.proofs.Calls.{came}
+use Rattle.kinds.proofs.Calls.{came}
 use borrow.Author.Needs.{needs}
 use Rattle.buckettin.proofs.buckettin_first.Statement.{statement}
 use Rattle.buckettin.proofs.buckettin_first.Tie as tie

@@ -3,7 +3,7 @@ use mathlib.Core.Path.{_∙_}
 use lib.IntN.{pos}
 use Rattle.datum.specs.Point.{geoidOf}
 use Rattle.datum.specs.Cases.{geoidAnswer}
-use Rattle.floating.proofs.Calls.{found}
+use Rattle.kinds.proofs.Calls.{found}
 use Rattle.buckettin.specs.Fields.{geoidFields}
 use Rattle.buckettin.proofs.Numbers.{four-bytes}
 use borrow.Author.Needs.{needs}

@@ -3,7 +3,7 @@ use mathlib.Core.Path.{_∙_}
 use lib.IntN.{ℤ}
 use Rattle.kinds.specs.Answer.{refusalOf}
 use Rattle.floating.specs.Floats.{floatingOf}
-use Rattle.floating.proofs.Calls.{came}
+use Rattle.kinds.proofs.Calls.{came}
 use borrow.Author.Needs.{needs}
 use Rattle.buckettin.proofs.buckettin_refusal.Statement.{statement}
 use Rattle.buckettin.proofs.buckettin_refusal.Tie as tie

@@ -5,7 +5,7 @@ use Rattle.tables.specs.Page.{geoid}
 use Rattle.datum.specs.Point.{answerOf}
 use Rattle.datum.specs.Cases.{pointAnswer}
 use Rattle.floating.specs.Floats.{answerInFloats}
-use Rattle.floating.proofs.Calls.{found}
+use Rattle.kinds.proofs.Calls.{found}
 use borrow.Author.Needs.{needs}
 use Rattle.floating.proofs.floating.Statement.{statement}
 use Rattle.floating.proofs.floating.Tie as tie

@@ -2,7 +2,7 @@
 use Rattle.kinds.specs.Answer.{refusalOf}
 use Rattle.floating.specs.Floats.{floatingOf}
 use Rattle.floating.specs.Cases.{floatAnswer}
-use Rattle.floating.proofs.Calls.{found}
+use Rattle.kinds.proofs.Calls.{found}
 use borrow.Author.Needs.{needs}
 use Rattle.floating.proofs.refusal.Statement.{statement}
 use Rattle.floating.proofs.refusal.Tie as tie

@@ -1,7 +1,7 @@
 -- `line::answered` meets its contract. Assumes nothing.
 use mathlib.Core.Path.{refl, _∙_}
 use Rattle.whole.proofs.Words.{of, widened, widened-asks}
-use Rattle.tables.specs.Cases.{shiftSays, geoidSays}
+use Rattle.datum.specs.Cases.{shiftSays, geoidSays}
 use Rattle.line.specs.Inside.{placeSays}
 use Rattle.line.proofs.Calls.{value-answered, point-refused}
 use borrow.Author.Needs.{needs}

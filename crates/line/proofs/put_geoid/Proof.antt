@@ -2,7 +2,7 @@
 use mathlib.Core.Path.{sym, _∙_}
 use lib.ListN.{replicate}
 use Rattle.whole.proofs.Words.{of}
-use Rattle.tables.specs.Cases.{geoidSays}
+use Rattle.datum.specs.Cases.{geoidSays}
 use Rattle.line.specs.Line.{lineFeed}
 use Rattle.line.proofs.Writing.{field, field-long, text-fits, text-counted, line-put, geoid-field}
 use borrow.Author.Needs.{needs}

@@ -1,7 +1,7 @@
 -- `line::put_shift` meets its contract. Assumes nothing.
 use mathlib.Core.Path.{refl}
 use lib.ListN.{replicate}
-use Rattle.tables.specs.Cases.{shiftSays}
+use Rattle.datum.specs.Cases.{shiftSays}
 use Rattle.line.specs.Line.{answerLine}
 use Rattle.line.proofs.Writing.{text-fits, text-counted, line-put}
 use borrow.Author.Needs.{needs}
