@@ -20,7 +20,7 @@ use Rattle.datum.specs.Point.{answerOf, pageOf}
 use Rattle.datum.specs.Exact.{exact, AllWithin, demanded}
 use Rattle.datum.proofs.Demands as datum
 use Rattle.decimal.specs.Decimal.{unpadded, decimal, printedNumber}
-use Rattle.line.specs.Line.{codeByte, code, latitudeOf, longitudeOf, readTests, pointTests, tests, pointOf, answerLine, lineOf}
+use Rattle.line.specs.Line.{codeByte, code, latitudeOf, longitudeOf, readTests, pointTests, tests, answerTo, answerLine, lineOf}
 use Rattle.line.specs.Form.{lineBytes}
 use Rattle.line.proofs.Calls.{in-range}
 use Rattle.line.proofs.Form as form
@@ -28,7 +28,7 @@ use Rattle.line.proofs.Lines as lines
 
 -- ---- 'code digit, space, latitude text, space, longitude text; 26 bytes before the line feed'
 -- a line that was read is answered as the point that it says, by the call that takes both families
-pub answered-as : (line : List ℕ) → AllHold (readTests line) → pointOf line ≡ answerOf (code line) (latitudeOf line) (longitudeOf line)
+pub answered-as : (line : List ℕ) → AllHold (readTests line) → answerTo line ≡ answerOf (code line) (latitudeOf line) (longitudeOf line)
 answered-as line all =
     in-two (readTests line) (pointTests line) (gives (rule.worked (pageOf (code line)) (latitudeOf line) (longitudeOf line)))
     ∙ held (readTests line) _ all
@@ -36,7 +36,7 @@ answered-as line all =
 
 -- a line that is made of a digit and a position in range is read as them, and so answered
 pub made-reads : (digit : ℕ) (north east : ℤ) → digit < 10 → inRange latitude north ≡ true → inRange longitude east ≡ true
-    → AllHold (readTests (lineBytes digit north east)) × (pointOf (lineBytes digit north east) ≡ answerOf (pos digit) north east)
+    → AllHold (readTests (lineBytes digit north east)) × (answerTo (lineBytes digit north east) ≡ answerOf (pos digit) north east)
 made-reads digit north east d n e =
     let says = form.made-says digit north east d n e in
     let all = form.made-holds digit north east d n e in
@@ -108,18 +108,18 @@ unfolding isAngle inSixties angle allDigits number fromPlaces digitOf
 orders = record { empty = refl; too-long = refl; length-and-kind = refl; code-and-range = refl; space-and-range = refl; second-and-range = refl; kind-and-range = refl; range-and-code = refl; code-and-area = refl; area-and-room = refl }
 
 -- the answer of a line is that of its point
-of-point : (line : List ℕ) {values : Family ℤ} → pointOf line ≡ gives values → answerOf (code line) (latitudeOf line) (longitudeOf line) ≡ gives values
+of-point : (line : List ℕ) {values : Family ℤ} → answerTo line ≡ gives values → answerOf (code line) (latitudeOf line) (longitudeOf line) ≡ gives values
 of-point line {values} h =
     let (a, (b, (c, _))) = kinds.given-where (tests line) _ values .0 h .0 in
     sym (answered-as line (a, (b, (c, tt)))) ∙ h
 
 -- ---- demand 3: each number of an answer is within 2, 2 and 1 units of the exact value
-pub near : (line : List ℕ) {values : Family ℤ} → pointOf line ≡ gives values → AllWithin 1 (demanded values) (exact (pageOf (code line)) (latitudeOf line) (longitudeOf line)) values
+pub near : (line : List ℕ) {values : Family ℤ} → answerTo line ≡ gives values → AllWithin 1 (demanded values) (exact (pageOf (code line)) (latitudeOf line) (longitudeOf line)) values
 near line h = datum.as-demanded isEither (code line) (latitudeOf line) (longitudeOf line) (of-point line h)
 
 -- ---- the line tells its numbers, and which family they are of
 -- two answers that are printed alike are the same
-pub answers-apart : (line other : List ℕ) {v w : Family ℤ} → pointOf line ≡ gives v → pointOf other ≡ gives w → answerLine v ≡ answerLine w → v ≡ w
+pub answers-apart : (line other : List ℕ) {v w : Family ℤ} → answerTo line ≡ gives v → answerTo other ≡ gives w → answerLine v ≡ answerLine w → v ≡ w
 answers-apart line other {v} {w} h k same =
     lines.lines-apart v w
     (datum.four-bytes isEither (code line) (latitudeOf line) (longitudeOf line) (of-point line h))

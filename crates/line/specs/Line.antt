@@ -74,8 +74,8 @@ abbrev pub tests : List ℕ → List Test
 tests line = readTests line ++ pointTests line
 
 -- the shift or the geoid height of its point
-abbrev pub pointOf : List ℕ → Answer (Family ℤ)
-pointOf line = inOrder (tests line) (gives (worked (pageOf (code line)) (latitudeOf line) (longitudeOf line)))
+abbrev pub answerTo : List ℕ → Answer (Family ℤ)
+answerTo line = inOrder (tests line) (gives (worked (pageOf (code line)) (latitudeOf line) (longitudeOf line)))
 
 -- ---- a line out, with its line feed
 -- 'dLat, dLon and dH in answer units with one space between, or N alone'
@@ -85,4 +85,4 @@ answerLine (geoid n) = printedNumber n ++ lineFeed ∷ []
 
 -- 'then 7 if the lent output line is shorter than the answer's text with its line feed'
 abbrev pub lineOf : List ℕ → ℕ → Answer (List ℕ)
-lineOf line room = following (pointOf line) (λ values. placed (answerLine values) room)
+lineOf line room = following (answerTo line) (λ values. placed (answerLine values) room)

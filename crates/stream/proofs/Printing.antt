@@ -15,7 +15,7 @@ use Rattle.kinds.specs.Answer.{Answer, gives, refused, placed, following, count
 use Rattle.kinds.proofs.Answers.{not-both, same-value, first-failed, first-number}
 use Rattle.position.specs.Text.{byteOf}
 use Rattle.tables.specs.Page.{Family}
-use Rattle.line.specs.Line.{lineFeed, answerLine, tests, pointOf, lineOf, unbroken}
+use Rattle.line.specs.Line.{lineFeed, answerLine, tests, answerTo, lineOf, unbroken}
 use Rattle.line.proofs.Printing.{answer-line-short, answer-line-ends}
 use Rattle.stream.specs.Stream.{refusedLine, said, printed, ended, begunAfter, held, kept, answers}
 use Rattle.stream.specs.declared.Begun.{Begun}
@@ -30,7 +30,7 @@ said-short (refused n) = omega arith
 
 printed-short : (line : List ℕ) → length (printed line) ≤ 36
 unfolding printed
-printed-short line = said-short (pointOf line)
+printed-short line = said-short (answerTo line)
 
 -- a line feed ends it, and no other is in it
 said-ends : (a : Answer (Family ℤ)) → (text : List ℕ) × ((said a ≡ text ++ lineFeed ∷ []) × (unbroken text ≡ true))
@@ -40,7 +40,7 @@ said-ends (refused n) = (114 ∷ 101 ∷ 102 ∷ 117 ∷ 115 ∷ 101 ∷ 100 ∷
 
 pub printed-ends : (line : List ℕ) → (text : List ℕ) × ((printed line ≡ text ++ lineFeed ∷ []) × (unbroken text ≡ true))
 unfolding printed
-printed-ends line = said-ends (pointOf line)
+printed-ends line = said-ends (answerTo line)
 
 -- another length than 26
 pub printed-refused : (line : List ℕ) → (length line ≡ 26 → ⊥) → printed line ≡ refusedLine 1
@@ -175,33 +175,33 @@ module _ (room : ℕ) (enough : 36 ≤ room) where
 
 pub answer-printed : (line : List ℕ) (room : ℕ) → 36 ≤ room → {text : List ℕ} → lineOf line room ≡ gives text → printed line ≡ text
 unfolding printed
-answer-printed line room enough h = as-given room enough (pointOf line) h
+answer-printed line room enough h = as-given room enough (answerTo line) h
 
 pub refusal-printed : (line : List ℕ) (room : ℕ) → 36 ≤ room → {n : ℕ} → lineOf line room ≡ refused n → printed line ≡ refusedLine n
 unfolding printed
-refusal-printed line room enough h = as-refused room enough (pointOf line) h
+refusal-printed line room enough h = as-refused room enough (answerTo line) h
 
 module _ (line out : List ℕ) (room : length (printed line) ≤ length out) where
   pub answer-put : (count : ℕ) (new : List ℕ) → gives count ≡ counted (lineOf line (length out)) → new ≡ lent (lineOf line (length out)) out
       → (count ≡ length (printed line)) × (new ≡ printed line ++ drop count out)
   unfolding printed
-  answer-put count new h is-new = let g = gives-said (pointOf line) out count room h in (g .0, is-new ∙ g .1)
+  answer-put count new h is-new = let g = gives-said (answerTo line) out count room h in (g .0, is-new ∙ g .1)
 
   -- the line of a refusal, which is then put at the start of same
   module _ (number n : ℕ) (h : refused n ≡ counted (lineOf line (length out))) (is-number : number ≡ n) where
     pub number-small : number < 10
     unfolding printed
     number-small =
-        omega (arith, ltb-true n 10 (first-number (λ m. ltb m 10) (tests line) n refl (first-failed (tests line) _ n (refused-said (pointOf line) out n room h .0))))
+        omega (arith, ltb-true n 10 (first-number (λ m. ltb m 10) (tests line) n refl (first-failed (tests line) _ n (refused-said (answerTo line) out n room h .0))))
 
     module _ (text same : List ℕ) (is-text : text ≡ refusedLine number) (is-same : same ≡ lent (lineOf line (length out)) out) where
       text-is : text ≡ printed line
       unfolding printed
-      text-is = is-text ∙ ap refusedLine is-number ∙ ap said (sym (refused-said (pointOf line) out n room h .0))
+      text-is = is-text ∙ ap refusedLine is-number ∙ ap said (sym (refused-said (answerTo line) out n room h .0))
 
       same-is : same ≡ out
       unfolding printed
-      same-is = is-same ∙ refused-said (pointOf line) out n room h .1
+      same-is = is-same ∙ refused-said (answerTo line) out n room h .1
 
       pub refusal-fits : length text ≤ length same
       refusal-fits = rw (text-is, same-is) room

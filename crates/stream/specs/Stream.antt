@@ -8,7 +8,7 @@ use lib.ListN.{length, take, replicate}
 use Rattle.kinds.specs.Answer.{Answer, gives, refused}
 use Rattle.position.specs.Text.{byteOf}
 use Rattle.tables.specs.Page.{Family}
-use Rattle.line.specs.Line.{space, lineFeed, answerLine, pointOf}
+use Rattle.line.specs.Line.{space, lineFeed, answerLine, answerTo}
 use Rattle.stream.specs.declared.Begun.{Begun}
 use Rattle.stream.specs.declared.Reading.{Reading}
 
@@ -23,7 +23,7 @@ said (gives values) = answerLine values
 said (refused number) = refusedLine number
 
 unfoldable pub printed : List ℕ → List ℕ
-printed line = said (pointOf line)
+printed line = said (answerTo line)
 
 -- ---- lines in
 -- lines, each with its line feed
