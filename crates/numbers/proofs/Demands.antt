@@ -27,12 +27,12 @@ pub complement-back : (n : ℕ) → n < 4294967296 → complement (signed n) ≡
 complement-back n h = numbers.complement-back n h
 
 -- the first byte counts most: code 1's dLat at its centre is FF FA 22 E0, and its dH 00 00 5F 6E; two bytes 01 F4 are 500
-pub record Worked : Type 0 where
+pub record Examples : Type 0 where
   pub below-zero : inBytes 4 (complement (negℤ (pos 384288))) ≡ 255 ∷ 250 ∷ 34 ∷ 224 ∷ []
   pub above-zero : inBytes 4 (complement (pos 24430)) ≡ 0 ∷ 0 ∷ 95 ∷ 110 ∷ []
   pub read-signed : signed (number (255 ∷ 250 ∷ 34 ∷ 224 ∷ [])) ≡ negℤ (pos 384288)
   pub read-count : number (1 ∷ 244 ∷ []) ≡ 500
 
-pub worked : Worked
+pub examples : Examples
 unfolding number inBytes fromPlaces inPlaces complement signed
-worked = record { below-zero = refl; above-zero = refl; read-signed = refl; read-count = refl }
+examples = record { below-zero = refl; above-zero = refl; read-signed = refl; read-count = refl }

@@ -188,12 +188,12 @@ unfolding read write isAngle inSixties angle allDigits number fromPlaces digitOf
 orders = record { length-first = refl; byte-next = refl; range-first = refl }
 
 -- ---- 'Points to hold against the page': two of the twelve
-pub record Worked : Type 0 where
+pub record Examples : Type 0 where
   -- 900000.000N
   pub pole : read latitude (57 ∷ 48 ∷ 48 ∷ 48 ∷ 48 ∷ 48 ∷ 46 ∷ 48 ∷ 48 ∷ 48 ∷ 78 ∷ []) ≡ gives (pos 324000000)
   -- 000000.000S
   pub zero-south : read latitude (48 ∷ 48 ∷ 48 ∷ 48 ∷ 48 ∷ 48 ∷ 46 ∷ 48 ∷ 48 ∷ 48 ∷ 83 ∷ []) ≡ refused 3
 
-pub worked : Worked
+pub examples : Examples
 unfolding read isAngle inSixties angle allDigits number fromPlaces digitOf
-worked = record { pole = refl; zero-south = refl }
+examples = record { pole = refl; zero-south = refl }

@@ -36,14 +36,14 @@ pub use Rattle.numbers.proofs.Demands.{number-back, bytes-back, signed-back, co
 pub use Rattle.layout.proofs.Demands.{made-reads, reads-made, codes-rise, listed-where}
 
 -- ---- '13 bytes a point': the records of code 1's centre, of code 6's, and of a point outside its area
-pub record Worked : Type 0 where
+pub record Examples : Type 0 where
   pub shifts : inRecord (gives (shift (negℤ (pos 384288)) (negℤ (pos 110294)) (pos 24430))) ≡ 0 ∷ 255 ∷ 250 ∷ 34 ∷ 224 ∷ 255 ∷ 254 ∷ 81 ∷ 42 ∷ 0 ∷ 0 ∷ 95 ∷ 110 ∷ []
   pub height : inRecord (gives (geoid (pos 7464))) ≡ 0 ∷ 0 ∷ 0 ∷ 29 ∷ 40 ∷ 0 ∷ 0 ∷ 0 ∷ 0 ∷ 0 ∷ 0 ∷ 0 ∷ 0 ∷ []
   pub refusal : inRecord (refused 6) ≡ 6 ∷ replicate 12 0
 
-pub worked : Worked
+pub examples : Examples
 unfolding inBytes inPlaces complement inRecord flatMap
-worked = record { shifts = refl; height = refl; refusal = refl }
+examples = record { shifts = refl; height = refl; refusal = refl }
 
 -- ---- 'A sheet is: serial, 4 bytes, not zero; a count of datums ..': a sheet as it is made, from its parts
 -- by its own unit it is worked where there is room, and its points' answers are the result

@@ -47,6 +47,6 @@ twelve = record {
   one-ms = refl;
   minus-one-ms = refl;
   square = refl;
-  pole = position.worked .pole;
-  zero-south = position.worked .zero-south;
+  pole = position.examples .pole;
+  zero-south = position.examples .zero-south;
 }

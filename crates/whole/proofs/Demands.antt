@@ -41,10 +41,10 @@ pub in-order : {m n : ℤ} {d : ℕ} → 0 < d → m ≤ℤ n → roundDiv m d �
 in-order h l = round-mono h l
 
 -- ---- '5/2 gives 3 and -5/2 gives -3'
-pub record Worked : Type 0 where
+pub record Examples : Type 0 where
   pub five-halves : roundDiv (pos 5) 2 ≡ pos 3
   pub minus-five-halves : roundDiv (negℤ (pos 5)) 2 ≡ negℤ (pos 3)
 
-pub worked : Worked
+pub examples : Examples
 unfolding roundDiv
-worked = record { five-halves = refl; minus-five-halves = refl }
+examples = record { five-halves = refl; minus-five-halves = refl }
