@@ -23,7 +23,7 @@ use Rattle.numbers.specs.Numbers.{inBytes}
 use Rattle.layout.specs.Sheet.{serial, datums, codes, count, body, point, points, pieces, rise, isListed, serialTests, pointTests, said}
 use Rattle.layout.specs.Layout.{counts, layoutAnswer, laidOut, readOf}
 use Rattle.sheet.specs.Result.{inRecord, answerAt, resultOf, workOf}
-use Rattle.sheet.specs.Inside.{flags, flagOf, allFlagged, worked, records, finished}
+use Rattle.sheet.specs.Inside.{flags, flagOf, allFlagged, pointRecord, records, finished}
 use Rattle.layout.specs.declared.Layout.{Layout}
 use Rattle.layout.specs.declared.LayoutAnswer.{LayoutAnswer}
 use Rattle.sheet.proofs.Codes.{flagged}
@@ -32,8 +32,8 @@ use Rattle.layout.proofs.Reading.{Laid, codes-are, front, in-front}
 use Rattle.sheet.proofs.Results.{records-long}
 
 -- ---- points and their records
-of-points : (ps : List (List ℕ)) → flatMap worked ps ≡ flatMap (λ p. inRecord (answerAt p)) (map point ps)
-unfolding flatMap worked
+of-points : (ps : List (List ℕ)) → flatMap pointRecord ps ≡ flatMap (λ p. inRecord (answerAt p)) (map point ps)
+unfolding flatMap pointRecord
 of-points [] = refl
 of-points (p ∷ ps) = ap (λ (l : List ℕ). inRecord (answerAt (point p)) ++ l) (of-points ps)
 

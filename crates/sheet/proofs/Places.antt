@@ -22,36 +22,36 @@ use Rattle.numbers.specs.Numbers.{inBytes}
 use Rattle.layout.specs.Sheet.{Point, serial, datums, codes, count, body, point, points, pieces, rise, isListed, said}
 use Rattle.sheet.specs.Result.{inRecord, answerAt, resultOf}
 use Rattle.sheet.specs.Places.{pointAt, recordAt, recordRefusal, recordNumbers}
-use Rattle.sheet.specs.Inside.{recordOf, worked, records}
+use Rattle.sheet.specs.Inside.{recordOf, pointRecord, records}
 use Rattle.numbers.proofs.Numbers.{one-read, value-back}
 use Rattle.layout.proofs.Codes.{listed-six}
-use Rattle.sheet.proofs.Results.{worked-long}
+use Rattle.sheet.proofs.Results.{point-record-long}
 use Rattle.sheet.proofs.Calls.{result-is}
 
 -- ---- the record at a place
-records-at : (n k : ℕ) (body : List ℕ) → k < n → part (k * 13) 13 (records n body) ≡ worked (part (k * 9) 9 body)
+records-at : (n k : ℕ) (body : List ℕ) → k < n → part (k * 13) 13 (records n body) ≡ pointRecord (part (k * 9) 9 body)
 unfolding records pieces flatMap
 records-at zero k body h = absurd (omega arith)
-records-at (suc n) zero body h = take-at (worked (take 9 body)) (records n (drop 9 body)) 13 (worked-long (take 9 body))
+records-at (suc n) zero body h = take-at (pointRecord (take 9 body)) (records n (drop 9 body)) 13 (point-record-long (take 9 body))
 records-at (suc n) (suc k) body h =
-    let far : suc k * 13 ≡ length (worked (take 9 body)) + k * 13 = omega (arith, worked-long (take 9 body)) in
+    let far : suc k * 13 ≡ length (pointRecord (take 9 body)) + k * 13 = omega (arith, point-record-long (take 9 body)) in
     let near : 9 + k * 9 ≡ suc k * 9 = omega arith in
     ap (λ (m : ℕ). part m 13 (records (suc n) body)) far
-    ∙ ap (take 13) (drop-append-add (worked (take 9 body)) (records n (drop 9 body)) (k * 13))
+    ∙ ap (take 13) (drop-append-add (pointRecord (take 9 body)) (records n (drop 9 body)) (k * 13))
     ∙ records-at n k (drop 9 body) (omega arith)
-    ∙ ap (λ (l : List ℕ). worked (take 9 l)) (drop-drop (k * 9) 9 body ∙ ap (λ (m : ℕ). drop m body) near)
+    ∙ ap (λ (l : List ℕ). pointRecord (take 9 l)) (drop-drop (k * 9) 9 body ∙ ap (λ (m : ℕ). drop m body) near)
 
 module _ (t : List ℕ) where
   abbrev start : List ℕ
   start = inBytes 4 (serial t) ++ inBytes 2 (count t)
 
   pub record-at : (k : ℕ) → k < count t → recordAt k (resultOf (said t)) ≡ inRecord (answerAt (pointAt k t))
-  unfolding inBytes inPlaces worked body
+  unfolding inBytes inPlaces pointRecord body
   record-at k h =
       ap (recordAt k) (sym (result-is t))
       ∙ ap (take 13) (drop-append-add start (records (count t) (body t)) (k * 13))
       ∙ records-at (count t) k (body t) h
-      ∙ ap (λ (l : List ℕ). worked (take 9 l)) (drop-drop (k * 9) (7 + datums t) t)
+      ∙ ap (λ (l : List ℕ). pointRecord (take 9 l)) (drop-drop (k * 9) (7 + datums t) t)
 
   -- and before them the serial and the count
   pub serial-at : part 0 4 (resultOf (said t)) ≡ inBytes 4 (serial t)

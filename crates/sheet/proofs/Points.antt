@@ -25,7 +25,7 @@ use Rattle.datum.specs.declared.PointAnswer.the-variants as Said
 use Rattle.numbers.specs.Numbers.{number, inBytes, complement, signed}
 use Rattle.layout.specs.Sheet.{point, pieces}
 use Rattle.sheet.specs.Result.{inRecord}
-use Rattle.sheet.specs.Inside.{flagOf, allFlagged, recordOf, worked}
+use Rattle.sheet.specs.Inside.{flagOf, allFlagged, recordOf, pointRecord}
 use Rattle.numbers.proofs.Numbers.{one-read}
 
 -- the bytes of the point at i
@@ -64,10 +64,10 @@ module _ (t : List ℕ) {code longitude : ℕ} {latitude : ℤ}
     (is-code : code ≡ number (part 0 1 t)) (one : code < 256)
     (is-latitude : latitude ≡ signed (number (part 1 4 t))) (fits : SFits w64 latitude)
     (is-longitude : longitude ≡ number (part 5 4 t)) (four : longitude < 4294967296) where
-  pub worked-is : {given case : PointAnswer} → pointAnswer given ≡ answerOf (toZ w64 code) (toZ w64 (ofZ w64 latitude)) (toZ w64 longitude) → given ≡ case
-      → inRecord (pointAnswer case) ≡ worked t
-  unfolding worked point
-  worked-is e same =
+  pub point-record-is : {given case : PointAnswer} → pointAnswer given ≡ answerOf (toZ w64 code) (toZ w64 (ofZ w64 latitude)) (toZ w64 longitude) → given ≡ case
+      → inRecord (pointAnswer case) ≡ pointRecord t
+  unfolding pointRecord point
+  point-record-is e same =
       let c : toZ w64 code ≡ pos (number (part 0 1 t)) = from-unsigned {w = w64} {n = code} (omega arith) .reads ∙ ap pos is-code in
       let l : toZ w64 longitude ≡ pos (number (part 5 4 t)) = from-unsigned {w = w64} {n = longitude} (omega arith) .reads ∙ ap pos is-longitude in
       ap inRecord (ap pointAnswer (sym same) ∙ e ∙ (λ i. answerOf (c i) ((of fits .reads ∙ is-latitude) i) (l i)))

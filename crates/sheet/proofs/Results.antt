@@ -13,39 +13,39 @@ use Rattle.kinds.proofs.Writing.{grown}
 use Rattle.numbers.specs.Numbers.{inBytes}
 use Rattle.layout.specs.Sheet.{pieces}
 use Rattle.sheet.specs.Result.{inRecord}
-use Rattle.sheet.specs.Inside.{worked, records}
+use Rattle.sheet.specs.Inside.{pointRecord, records}
 use Rattle.numbers.proofs.Numbers.{two-written}
 
 -- ---- how long
-pub worked-long : (t : List ℕ) → length (worked t) ≡ 13
-unfolding worked inRecord inBytes flatMap inPlaces
-worked-long t = refl
+pub point-record-long : (t : List ℕ) → length (pointRecord t) ≡ 13
+unfolding pointRecord inRecord inBytes flatMap inPlaces
+point-record-long t = refl
 
 pub records-long : (n : ℕ) (body : List ℕ) → length (records n body) ≡ n * 13
 unfolding records pieces flatMap
 records-long zero body = refl
-records-long (suc n) body = omega (arith, length-append (worked (take 9 body)) (records n (drop 9 body)), worked-long (take 9 body), records-long n (drop 9 body))
+records-long (suc n) body = omega (arith, length-append (pointRecord (take 9 body)) (records n (drop 9 body)), point-record-long (take 9 body), records-long n (drop 9 body))
 
 -- ---- one more
-records-last : (n : ℕ) (body : List ℕ) → records (suc n) body ≡ records n body ++ worked (take 9 (drop (n * 9) body))
+records-last : (n : ℕ) (body : List ℕ) → records (suc n) body ≡ records n body ++ pointRecord (take 9 (drop (n * 9) body))
 unfolding records pieces flatMap
-records-last zero body = append-nil (worked (take 9 body))
+records-last zero body = append-nil (pointRecord (take 9 body))
 records-last (suc n) body =
     let k : 9 + n * 9 ≡ suc n * 9 = omega arith in
     let e : drop (n * 9) (drop 9 body) ≡ drop (suc n * 9) body = drop-drop (n * 9) 9 body ∙ ap (λ (j : ℕ). drop j body) k in
-    ap (λ (l : List ℕ). worked (take 9 body) ++ l) (records-last n (drop 9 body) ∙ ap (λ (l : List ℕ). records n (drop 9 body) ++ worked (take 9 l)) e)
-    ∙ sym (append-assoc (worked (take 9 body)) (records n (drop 9 body)) (worked (take 9 (drop (suc n * 9) body))))
+    ap (λ (l : List ℕ). pointRecord (take 9 body) ++ l) (records-last n (drop 9 body) ∙ ap (λ (l : List ℕ). records n (drop 9 body) ++ pointRecord (take 9 l)) e)
+    ∙ sym (append-assoc (pointRecord (take 9 body)) (records n (drop 9 body)) (pointRecord (take 9 (drop (suc n * 9) body))))
 
 -- a turn: d is the buffer at its start, d0 as it came; line is the record of the point at i
 module _ (body d0 : List ℕ) (i : ℕ) where
-  pub turn : (d line new : List ℕ) → d ≡ records i body ++ drop (i * 13) d0 → line ≡ worked (take (i * 9 + 9 - i * 9) (drop (i * 9) body))
+  pub turn : (d line new : List ℕ) → d ≡ records i body ++ drop (i * 13) d0 → line ≡ pointRecord (take (i * 9 + 9 - i * 9) (drop (i * 9) body))
       → new ≡ take (length line) line ++ drop (length line) (take (length d - i * 13) (drop (i * 13) d))
       → putMid (i * 13) (length d - i * 13) d new ≡ records (i + 1) body ++ drop ((i + 1) * 13) d0
   turn d line new is-d is-line is-new =
-      let r : List ℕ = worked (take 9 (drop (i * 9) body)) in
+      let r : List ℕ = pointRecord (take 9 (drop (i * 9) body)) in
       let nine : i * 9 + 9 - i * 9 ≡ 9 = omega arith in
-      let k : i * 13 + length r ≡ (i + 1) * 13 = omega (arith, worked-long (take 9 (drop (i * 9) body))) in
-      let l : line ≡ r = is-line ∙ ap (λ (n : ℕ). worked (take n (drop (i * 9) body))) nine in
+      let k : i * 13 + length r ≡ (i + 1) * 13 = omega (arith, point-record-long (take 9 (drop (i * 9) body))) in
+      let l : line ≡ r = is-line ∙ ap (λ (n : ℕ). pointRecord (take n (drop (i * 9) body))) nine in
       rw (is-new, take-length line, is-d, l)
       (grown (records i body) d0 r (i * 13) (length r) (records-long i body)
       ∙ (λ j. (sym (ap (λ (n : ℕ). records n body) (add-one i) ∙ records-last i body)) j ++ drop (k j) d0))

@@ -34,12 +34,12 @@ unfoldable pub recordOf : ℕ → ℤ → ℤ → ℤ → List ℕ
 recordOf refusal first second third = refusal ∷ flatMap (λ value. inBytes 4 (complement value)) (first ∷ second ∷ third ∷ [])
 
 -- the record of a point's bytes
-unfoldable pub worked : List ℕ → List ℕ
-worked bytes = inRecord (answerAt (point bytes))
+unfoldable pub pointRecord : List ℕ → List ℕ
+pointRecord bytes = inRecord (answerAt (point bytes))
 
 -- and of the first n points
 unfoldable pub records : ℕ → List ℕ → List ℕ
-records n body = flatMap worked (pieces n pointLength body)
+records n body = flatMap pointRecord (pieces n pointLength body)
 
 -- after the tests of crate `layout`
 unfoldable pub finished : List ℕ → ℕ → Answer (List ℕ)

@@ -16,7 +16,7 @@ ghost use Rattle.numbers.specs.Numbers.{inBytes};
 ghost use Rattle.layout.specs.Sheet.{pointLength, rise};
 ghost use Rattle.layout.specs.Layout.{laidOut};
 ghost use Rattle.sheet.specs.Result.{recordLength, workOf};
-ghost use Rattle.sheet.specs.Inside.{flags, allFlagged, recordOf, worked, records, finished};
+ghost use Rattle.sheet.specs.Inside.{flags, allFlagged, recordOf, pointRecord, records, finished};
 
 // Works the sheet of a unit: writes the result to the start of a lent buffer and says how many bytes, 6 and 13 for each point.
 // Refused, in the order of the sheet's bytes: 1 where it is cut or bytes follow, 9 where its serial is zero, a count is over
@@ -96,9 +96,9 @@ fn in_record(refusal: u8, first: i32, second: i32, third: i32) -> [u8; 13]
 }
 
 // The record of the point that 9 bytes of a sheet say.
-fn worked(point: &[u8]) -> [u8; 13]
+fn point_record(point: &[u8]) -> [u8; 13]
     requires { ⌜ length (now point) ≡ pointLength ⌝ }
-    ensures { λ r. ⌜ r ≡ worked (now (point .entry)) ⌝ }
+    ensures { λ r. ⌜ r ≡ pointRecord (now (point .entry)) ⌝ }
 {
     let latitude = numbers::signed(numbers::four(point, 1));
     let longitude = numbers::four(point, 5) as i64;
@@ -123,7 +123,7 @@ fn records(body: &[u8], points: usize, out: &mut [u8])
     let mut i = 0;
     while i < points {
         let from = i * layout::POINT;
-        let record = worked(&body[from..from + layout::POINT]);
+        let record = point_record(&body[from..from + layout::POINT]);
         let to = i * RECORD;
         bytes::copy(&record, &mut out[to..]);
         i += 1;

@@ -26,20 +26,20 @@ loop-holds c =
 mul-from : tie.Need-mul-from Inv-loop μ-loop
 mul-from c = search needs
 
-add-worked : tie.Need-add-worked Inv-loop μ-loop
-add-worked c = search needs
+add-point-record : tie.Need-add-point-record Inv-loop μ-loop
+add-point-record c = search needs
 
-sub-worked : tie.Need-sub-worked Inv-loop μ-loop
-sub-worked c = search needs
+sub-point-record : tie.Need-sub-point-record Inv-loop μ-loop
+sub-point-record c = search needs
 
-part-worked-start : tie.Need-part-worked-start Inv-loop μ-loop
-part-worked-start c = search needs
+part-point-record-start : tie.Need-part-point-record-start Inv-loop μ-loop
+part-point-record-start c = search needs
 
-part-worked-end : tie.Need-part-worked-end Inv-loop μ-loop
-part-worked-end c = search needs
+part-point-record-end : tie.Need-part-point-record-end Inv-loop μ-loop
+part-point-record-end c = search needs
 
-worked-requires : tie.Need-worked-requires Inv-loop μ-loop
-worked-requires c κs =
+point-record-requires : tie.Need-point-record-requires Inv-loop μ-loop
+point-record-requires c κs =
     let s = c .before .before .before .before .before in
     piece-lent (s .args .points) (c .before .before .loop .i) (s .args .body .now) (c .before .loop-test .taken) (s .pre .0)
 
@@ -73,7 +73,7 @@ loop-again c =
     let s = c .before .before .before .before .before .before .before .before .before .before .before in
     let i = top .loop .i in
     let test = c .before .before .before .before .before .before .before .loop-test .taken in
-    let t = turn (s .args .body .now) (s .args .out .now) i (top .loop .out) _ _ (top .loop .inv .1 .0) (c .before .before .before .before .before .worked .ensures) (c .before .before .copy .ensures .1) in
+    let t = turn (s .args .body .now) (s .args .out .now) i (top .loop .out) _ _ (top .loop .inv .1 .0) (c .before .before .before .before .before .point-record .ensures) (c .before .before .copy .ensures .1) in
     (omega (arith, test), (t, ap length t ∙ turn-long (s .args .body .now) (s .args .out .now) i (omega (arith, test, s .pre .1))))
 
 same-length : tie.Need-same-length Inv-loop μ-loop
@@ -92,11 +92,11 @@ records-spec =
     μ-loop
     loop-holds
     mul-from
-    add-worked
-    sub-worked
-    part-worked-start
-    part-worked-end
-    worked-requires
+    add-point-record
+    sub-point-record
+    part-point-record-start
+    part-point-record-end
+    point-record-requires
     mul-to
     slice-aggregate-copy
     sub-copy

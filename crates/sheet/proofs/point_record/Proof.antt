@@ -1,4 +1,4 @@
--- `sheet::worked` meets its contract. Assumes nothing.
+-- `sheet::point_record` meets its contract. Assumes nothing.
 use mathlib.Core.Path.{_≡_, ap, _∙_}
 use Prim.Native.Nat.{ℕ, _<_, _^_}
 use native.Mathlib.Omega.{arith}
@@ -10,9 +10,9 @@ use mir.Val.{hbits, toZ, ofZ}
 use Rattle.whole.proofs.Words.{of, small}
 use Rattle.numbers.specs.Numbers.{signed}
 use Rattle.sheet.specs.Inside.{recordOf}
-use Rattle.sheet.proofs.Points.{shift-record, geoid-record, refused-record, worked-is}
-use Rattle.sheet.proofs.worked.Statement.{statement}
-use Rattle.sheet.proofs.worked.Tie as tie
+use Rattle.sheet.proofs.Points.{shift-record, geoid-record, refused-record, point-record-is}
+use Rattle.sheet.proofs.point_record.Statement.{statement}
+use Rattle.sheet.proofs.point_record.Tie as tie
 
 -- a result of 4 bytes, by the field that it is
 field : {n m : ℤ} → mag n < 2 ^ hbits w32 → n ≡ m → toZ w32 (ofZ w32 n) ≡ m
@@ -77,20 +77,20 @@ returns c =
     c .in-record .ensures
     ∙ (λ i. recordOf 0 (field (c .before .before .before .units .ok) (c .before .before .before .units .ensures) i) (field (c .before .before .units2 .ok) (c .before .before .units2 .ensures) i) (field (c .before .mm .ok) (c .before .mm .ensures) i))
     ∙ shift-record _
-    ∙ worked-is _ (c .before .before .before .before .before .before .before .before .one .ensures .0) (c .before .before .before .before .before .before .before .before .one .ensures .1) (c .before .before .before .before .before .before .before .before .before .before .signed .ensures ∙ ap signed (c .before .before .before .before .before .before .before .before .before .before .before .four .ensures)) (record { sfits = c .before .before .before .before .before .before .before .before .before .before .signed .ok }) (c .before .before .before .before .before .before .before .before .before .four2 .ensures) (c .before .before .before .before .before .before .before .before .before .four2 .ok) (c .before .before .before .before .before .before .before .answer .ensures) (c .before .before .before .before .before .shifts .given .1)
+    ∙ point-record-is _ (c .before .before .before .before .before .before .before .before .one .ensures .0) (c .before .before .before .before .before .before .before .before .one .ensures .1) (c .before .before .before .before .before .before .before .before .before .before .signed .ensures ∙ ap signed (c .before .before .before .before .before .before .before .before .before .before .before .four .ensures)) (record { sfits = c .before .before .before .before .before .before .before .before .before .before .signed .ok }) (c .before .before .before .before .before .before .before .before .before .four2 .ensures) (c .before .before .before .before .before .before .before .before .before .four2 .ok) (c .before .before .before .before .before .before .before .answer .ensures) (c .before .before .before .before .before .shifts .given .1)
 
 returns-2 : tie.Need-returns-2
 returns-2 c =
     c .in-record2 .ensures ∙ ap (λ (x : ℤ). recordOf 0 x (pos 0) (pos 0)) (field (c .before .mm2 .ok) (c .before .mm2 .ensures)) ∙ geoid-record _
-    ∙ worked-is _ (c .before .before .before .before .before .before .one .ensures .0) (c .before .before .before .before .before .before .one .ensures .1) (c .before .before .before .before .before .before .before .before .signed .ensures ∙ ap signed (c .before .before .before .before .before .before .before .before .before .four .ensures)) (record { sfits = c .before .before .before .before .before .before .before .before .signed .ok }) (c .before .before .before .before .before .before .before .four2 .ensures) (c .before .before .before .before .before .before .before .four2 .ok) (c .before .before .before .before .before .answer .ensures) (c .before .before .before .height .given .1)
+    ∙ point-record-is _ (c .before .before .before .before .before .before .one .ensures .0) (c .before .before .before .before .before .before .one .ensures .1) (c .before .before .before .before .before .before .before .before .signed .ensures ∙ ap signed (c .before .before .before .before .before .before .before .before .before .four .ensures)) (record { sfits = c .before .before .before .before .before .before .before .before .signed .ok }) (c .before .before .before .before .before .before .before .four2 .ensures) (c .before .before .before .before .before .before .before .four2 .ok) (c .before .before .before .before .before .answer .ensures) (c .before .before .before .height .given .1)
 
 returns-3 : tie.Need-returns-3
 returns-3 c =
     c .in-record3 .ensures ∙ ap (λ (n : ℕ). recordOf n (pos 0) (pos 0) (pos 0)) (c .before .number .ensures) ∙ refused-record (c .before .before .before .why .given .0 .0)
-    ∙ worked-is _ (c .before .before .before .before .before .before .one .ensures .0) (c .before .before .before .before .before .before .one .ensures .1) (c .before .before .before .before .before .before .before .before .signed .ensures ∙ ap signed (c .before .before .before .before .before .before .before .before .before .four .ensures)) (record { sfits = c .before .before .before .before .before .before .before .before .signed .ok }) (c .before .before .before .before .before .before .before .four2 .ensures) (c .before .before .before .before .before .before .before .four2 .ok) (c .before .before .before .before .before .answer .ensures) (c .before .before .before .why .given .1)
+    ∙ point-record-is _ (c .before .before .before .before .before .before .one .ensures .0) (c .before .before .before .before .before .before .one .ensures .1) (c .before .before .before .before .before .before .before .before .signed .ensures ∙ ap signed (c .before .before .before .before .before .before .before .before .before .four .ensures)) (record { sfits = c .before .before .before .before .before .before .before .before .signed .ok }) (c .before .before .before .before .before .before .before .four2 .ensures) (c .before .before .before .before .before .before .before .four2 .ok) (c .before .before .before .before .before .answer .ensures) (c .before .before .before .why .given .1)
 
-pub worked-spec : {M : Type 1} → statement M
-worked-spec =
+pub point-record-spec : {M : Type 1} → statement M
+point-record-spec =
     tie.close
     (tie.spec
     four-requires
