@@ -13,7 +13,7 @@ use Rattle.whole.specs.Places.{fromPlaces, inPlaces}
 use Rattle.kinds.specs.Answer.{Answer, gives, refused, refusalOf, counted, lent}
 use Rattle.kinds.specs.Kinds.{within}
 use Rattle.kinds.proofs.Answers.{told, is, is-or}
-use Rattle.position.specs.Text.{Coordinate, latitude, longitude, textLength, isAngle, inSixties, angle, allDigits, number, digitOf, spelled, digits, read, write}
+use Rattle.position.specs.Text.{Coordinate, latitude, longitude, textLength, isAngle, inSixties, angle, allDigits, fromDigits, digitOf, spelled, digits, read, write}
 use Rattle.position.proofs.Demands as position
 use Rattle.equation.specs.Powers.{power, powersOf}
 use Rattle.equation.specs.Equation.{sum, equationOf}
@@ -26,8 +26,7 @@ use Rattle.datum.proofs.Codes.{not-shift, not-geoid}
 use Rattle.datum.proofs.Demands as datum
 use Rattle.floating.specs.Floats.{seconds, metres, floatingOf, floatZero, answerInFloats}
 use Rattle.floating.proofs.Demands as floating
-use Rattle.numbers.specs.Numbers as bytes
-use Rattle.numbers.specs.Numbers.{inBytes}
+use Rattle.numbers.specs.Numbers.{number, inBytes}
 use Rattle.layout.specs.Sheet.{serial, datums, codes, count, body, points, pieces, isUnit, rise, isListed}
 use Rattle.sheet.specs.Result.{resultOf, workOf}
 use Rattle.sheet.proofs.Demands as sheet
@@ -181,5 +180,5 @@ pub record Examples : Type 0 where
   pub line-answered : lineOf (49 ∷ 32 ∷ 51 ∷ 53 ∷ 48 ∷ 48 ∷ 48 ∷ 48 ∷ 46 ∷ 48 ∷ 48 ∷ 48 ∷ 78 ∷ 32 ∷ 48 ∷ 51 ∷ 51 ∷ 48 ∷ 48 ∷ 48 ∷ 48 ∷ 46 ∷ 48 ∷ 48 ∷ 48 ∷ 69 ∷ []) 36 ≡ gives (45 ∷ 51 ∷ 56 ∷ 52 ∷ 50 ∷ 56 ∷ 56 ∷ 32 ∷ 45 ∷ 49 ∷ 49 ∷ 48 ∷ 50 ∷ 57 ∷ 52 ∷ 32 ∷ 50 ∷ 52 ∷ 52 ∷ 51 ∷ 48 ∷ 10 ∷ [])
 
 pub examples : Examples
-unfolding roundDiv power powersOf sum read write isAngle inSixties angle allDigits number fromPlaces digitOf spelled digits inPlaces bytes.number inBytes serial datums codes count body points pieces isUnit rise isListed resultOf flatMap printedNumber decimal unpadded answerLine
+unfolding roundDiv power powersOf sum read write isAngle inSixties angle allDigits fromDigits fromPlaces digitOf spelled digits inPlaces number inBytes serial datums codes count body points pieces isUnit rise isListed resultOf flatMap printedNumber decimal unpadded answerLine
 examples = record { shift-example = refl; geoid-example = refl; refusal-example = refl; read-latitude = refl; read-longitude = refl; write-latitude = refl; write-longitude = refl; sheet-worked = refl; sheet-refused = refl; line-answered = refl }

@@ -15,26 +15,26 @@ use Rattle.whole.proofs.Bools.{by-test}
 use Rattle.whole.proofs.Words.{sized}
 use Rattle.kinds.specs.Kinds.{isFourBytes}
 use Rattle.kinds.proofs.Tested.{of-four-bytes}
-use Rattle.position.specs.Text.{isDigit, digitOf, byteOf, allDigits, number, digits}
+use Rattle.position.specs.Text.{isDigit, digitOf, byteOf, allDigits, fromDigits, digits}
 use Rattle.position.proofs.Digits as position
 use Rattle.decimal.specs.Decimal.{unpadded, decimal, printedNumber}
 use Rattle.decimal.proofs.Numbers.{zero-goes, first-stays, unpadded-every, digits-long}
 
 -- ---- without leading zeros it says the same
-zero-says : (l : List ℕ) → number (48 ∷ l) ≡ number l
-unfolding number fromPlaces digitOf
+zero-says : (l : List ℕ) → fromDigits (48 ∷ l) ≡ fromDigits l
+unfolding fromDigits fromPlaces digitOf
 zero-says l = omega arith
 
-unpadded-says : (l : List ℕ) → number (unpadded l) ≡ number l
+unpadded-says : (l : List ℕ) → fromDigits (unpadded l) ≡ fromDigits l
 unfolding unpadded
 unpadded-says [] = refl
 unpadded-says (b ∷ []) = refl
 unpadded-says (b ∷ next ∷ rest) =
     by-test (eqb b 48)
-    (λ t. simp t (unpadded-says (next ∷ rest) ∙ sym (zero-says (next ∷ rest)) ∙ ap (λ (x : ℕ). number (x ∷ next ∷ rest)) (sym (eqb-true b 48 t))))
+    (λ t. simp t (unpadded-says (next ∷ rest) ∙ sym (zero-says (next ∷ rest)) ∙ ap (λ (x : ℕ). fromDigits (x ∷ next ∷ rest)) (sym (eqb-true b 48 t))))
     (λ t. simp t refl)
 
-pub digits-say : (n : ℕ) → n < 10 ^ 10 → (allDigits (decimal n) ≡ true) × (number (decimal n) ≡ n)
+pub digits-say : (n : ℕ) → n < 10 ^ 10 → (allDigits (decimal n) ≡ true) × (fromDigits (decimal n) ≡ n)
 unfolding decimal allDigits
 digits-say n h = (unpadded-every isDigit (digits 10 n) (position.all-digits 10 n), unpadded-says (digits 10 n) ∙ position.number-of 10 n h)
 
@@ -75,10 +75,10 @@ any-width (suc v) w n some more h =
     ap unpadded (one-more v n (omega arith)) ∙ zero-goes (digits v n) (omega (arith, digits-long v n)) ∙ any-width v w n some (omega arith) h)
     (eq-or-lt-of-le more)
 
-pub one-text : (t : List ℕ) → allDigits t ≡ true → 0 < length t → length t ≤ 10 → (getD t 0 0 ≡ 48 → length t ≡ 1) → decimal (number t) ≡ t
+pub one-text : (t : List ℕ) → allDigits t ≡ true → 0 < length t → length t ≤ 10 → (getD t 0 0 ≡ 48 → length t ≡ 1) → decimal (fromDigits t) ≡ t
 unfolding decimal
 one-text t all some few first =
-    any-width 10 (length t) (number t) some few (position.number-below t all)
+    any-width 10 (length t) (fromDigits t) some few (position.number-below t all)
     ∙ ap unpadded (position.digits-of t all)
     ∙ stays t first
 
@@ -87,7 +87,7 @@ few-digits : (x : ℤ) → isFourBytes x ≡ true → natAbs x < 10 ^ 10
 few-digits x h = omega (arith, sized x (of-four-bytes x h))
 
 same-digits : (n m : ℕ) → n < 10 ^ 10 → m < 10 ^ 10 → decimal n ≡ decimal m → n ≡ m
-same-digits n m h k e = sym (digits-say n h .1) ∙ ap number e ∙ digits-say m k .1
+same-digits n m h k e = sym (digits-say n h .1) ∙ ap fromDigits e ∙ digits-say m k .1
 
 -- a minus sign is no digit
 no-sign : (n : ℕ) (d : List ℕ) → n < 10 ^ 10 → decimal n ≡ 45 ∷ d → ⊥

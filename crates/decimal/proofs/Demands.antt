@@ -7,7 +7,7 @@ use lib.IntN.{ℤ, pos, negℤ}
 use lib.ListN.{length, getD}
 use Rattle.whole.specs.Places.{inPlaces}
 use Rattle.kinds.specs.Kinds.{isFourBytes}
-use Rattle.position.specs.Text.{allDigits, number, digits}
+use Rattle.position.specs.Text.{allDigits, fromDigits, digits}
 use Rattle.decimal.specs.Decimal.{unpadded, decimal, printedNumber}
 use Rattle.decimal.proofs.Apart as apart
 
@@ -18,7 +18,7 @@ unfolding printedNumber
 sign-first n = (refl, refl)
 
 -- and they say it
-pub digits-say : (n : ℕ) → n < 10 ^ 10 → (allDigits (decimal n) ≡ true) × (number (decimal n) ≡ n)
+pub digits-say : (n : ℕ) → n < 10 ^ 10 → (allDigits (decimal n) ≡ true) × (fromDigits (decimal n) ≡ n)
 digits-say n h = apart.digits-say n h
 
 -- there is one at least, and the first is a zero only where it is the only one
@@ -26,7 +26,7 @@ pub no-leading-zero : (n : ℕ) → (0 < length (decimal n)) × (getD (decimal n
 no-leading-zero n = apart.no-leading-zero n
 
 -- and no other text of up to ten digits is like that: the number of such a text is printed as the text
-pub one-text : (t : List ℕ) → allDigits t ≡ true → 0 < length t → length t ≤ 10 → (getD t 0 0 ≡ 48 → length t ≡ 1) → decimal (number t) ≡ t
+pub one-text : (t : List ℕ) → allDigits t ≡ true → 0 < length t → length t ≤ 10 → (getD t 0 0 ≡ 48 → length t ≡ 1) → decimal (fromDigits t) ≡ t
 one-text t all some few first = apart.one-text t all some few first
 
 -- so two 4-byte numbers that are printed alike are the same

@@ -13,7 +13,7 @@ use Rattle.whole.proofs.Bools.{either}
 use Rattle.kinds.specs.Answer.{gives, refused, AllHold, FirstFails, inOrder, placed}
 use Rattle.kinds.proofs.Answers.{held, first-number, in-two, following-tests}
 use Rattle.kinds.proofs.Demands as kinds
-use Rattle.position.specs.Text.{latitude, longitude, inRange, allDigits, number, digitOf, digits, isAngle, inSixties, angle}
+use Rattle.position.specs.Text.{latitude, longitude, inRange, allDigits, fromDigits, digitOf, digits, isAngle, inSixties, angle}
 use Rattle.tables.specs.Page.{Family, shift, geoid, isEither}
 use Rattle.tables.specs.Rule as rule
 use Rattle.datum.specs.Point.{answerOf, pageOf}
@@ -104,7 +104,7 @@ pub record Orders : Type 0 where
   pub area-and-room : lineOf (52 ∷ 32 ∷ 51 ∷ 53 ∷ 48 ∷ 48 ∷ 48 ∷ 48 ∷ 46 ∷ 48 ∷ 48 ∷ 48 ∷ 78 ∷ 32 ∷ 48 ∷ 51 ∷ 51 ∷ 48 ∷ 48 ∷ 48 ∷ 48 ∷ 46 ∷ 48 ∷ 48 ∷ 48 ∷ 69 ∷ []) 0 ≡ refused 6
 
 pub orders : Orders
-unfolding isAngle inSixties angle allDigits number fromPlaces digitOf
+unfolding isAngle inSixties angle allDigits fromDigits fromPlaces digitOf
 orders = record { empty = refl; too-long = refl; length-and-kind = refl; code-and-range = refl; space-and-range = refl; second-and-range = refl; kind-and-range = refl; range-and-code = refl; code-and-area = refl; area-and-room = refl }
 
 -- the answer of a line is that of its point

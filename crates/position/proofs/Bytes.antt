@@ -10,7 +10,7 @@ use lib.Seq.{take-all, length-take-le}
 use Rattle.whole.specs.Places.{fromPlaces}
 use Rattle.kinds.specs.Bytes.{part}
 use Rattle.kinds.proofs.Bytes.{at, part-next, part-two}
-use Rattle.position.specs.Text.{latitude, longitude, isDigit, digitOf, allDigits, number, isAngle, inSixties, angle}
+use Rattle.position.specs.Text.{latitude, longitude, isDigit, digitOf, allDigits, fromDigits, isAngle, inSixties, angle}
 
 -- ---- a list, byte by byte
 -- f 0, f 1 and so on
@@ -29,17 +29,17 @@ pub by-bytes : (n : ℕ) (P : List ℕ → Type 0) → ((f : ℕ → ℕ) → P 
 by-bytes n P p t h = subst P (sym (spelt n t h)) (p (at t))
 
 -- ---- two digits, as the code reads them
-pub two-number : (from : ℕ) (t : List ℕ) → from + 2 ≤ length t → number (part from 2 t) ≡ digitOf (at t from) * 10 + digitOf (at t (from + 1))
-unfolding number fromPlaces
-two-number from t h = ap number (part-two from t h) ∙ omega arith
+pub two-number : (from : ℕ) (t : List ℕ) → from + 2 ≤ length t → fromDigits (part from 2 t) ≡ digitOf (at t from) * 10 + digitOf (at t (from + 1))
+unfolding fromDigits fromPlaces
+two-number from t h = ap fromDigits (part-two from t h) ∙ omega arith
 
 -- three, as a digit and two more
-number-next : (b : ℕ) (t : List ℕ) → length t ≡ 2 → number (b ∷ t) ≡ digitOf b * 100 + number t
-unfolding number fromPlaces
-number-next b t h = ap (λ (n : ℕ). digitOf b * 10 ^ n + number t) (length-map t digitOf ∙ h)
+number-next : (b : ℕ) (t : List ℕ) → length t ≡ 2 → fromDigits (b ∷ t) ≡ digitOf b * 100 + fromDigits t
+unfolding fromDigits fromPlaces
+number-next b t h = ap (λ (n : ℕ). digitOf b * 10 ^ n + fromDigits t) (length-map t digitOf ∙ h)
 
-pub three-number : (from : ℕ) (t : List ℕ) → from + 3 ≤ length t → number (part from 3 t) ≡ digitOf (at t from) * 100 + number (part (suc from) 2 t)
-three-number from t h = ap number (part-next from 2 t (omega arith)) ∙ number-next (at t from) (part (suc from) 2 t) (ap length (part-two (suc from) t (omega arith)))
+pub three-number : (from : ℕ) (t : List ℕ) → from + 3 ≤ length t → fromDigits (part from 3 t) ≡ digitOf (at t from) * 100 + fromDigits (part (suc from) 2 t)
+three-number from t h = ap fromDigits (part-next from 2 t (omega arith)) ∙ number-next (at t from) (part (suc from) 2 t) (ap length (part-two (suc from) t (omega arith)))
 
 -- ---- a longitude's text: a digit, and a text of a latitude's form
 abbrev pub rest : List ℕ → List ℕ

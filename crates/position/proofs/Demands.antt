@@ -15,7 +15,7 @@ use Rattle.whole.specs.Places.{fromPlaces}
 use Rattle.kinds.specs.Answer.{Answer, gives, refused, lent}
 use Rattle.kinds.proofs.Answers.{one-of, first-failed, fails-at}
 use Rattle.kinds.proofs.Demands.{written-where, unwritten-where}
-use Rattle.position.specs.Text.{Coordinate, latitude, longitude, fullStop, places, textLength, inRange, isLetter, isDigit, formed, ms, digitOf, allDigits, number, degrees, minutes, seconds, thousandths, letter, isAngle, inSixties, angle, signed, noZeroSouth, rightKinds, rightRanges, value, readTests, read, text, writeTests, write}
+use Rattle.position.specs.Text.{Coordinate, latitude, longitude, fullStop, places, textLength, inRange, isLetter, isDigit, formed, ms, digitOf, allDigits, fromDigits, degrees, minutes, seconds, thousandths, letter, isAngle, inSixties, angle, signed, noZeroSouth, rightKinds, rightRanges, value, readTests, read, text, writeTests, write}
 use Rattle.position.proofs.Bytes.{by-bytes}
 use Rattle.position.proofs.Trip as trip
 
@@ -82,10 +82,10 @@ accepted k t x = (of-reading, of-form)
   where
     of-reading : read k t ≡ gives x → TextOf k t x
     of-reading h = record {
-      d = number (degrees k t);
-      m = number (minutes k t);
-      s = number (seconds k t);
-      f = number (thousandths k t);
+      d = fromDigits (degrees k t);
+      m = fromDigits (minutes k t);
+      s = fromDigits (seconds k t);
+      f = fromDigits (thousandths k t);
       b = letter k t;
       form = sym (trip.has-form k t h);
       d-digits = trip.degrees-digits k t h;
@@ -184,7 +184,7 @@ pub record Orders : Type 0 where
   pub range-first : write latitude (pos 324000001) 0 ≡ refused 3
 
 pub orders : Orders
-unfolding read write isAngle inSixties angle allDigits number fromPlaces digitOf
+unfolding read write isAngle inSixties angle allDigits fromDigits fromPlaces digitOf
 orders = record { length-first = refl; byte-next = refl; range-first = refl }
 
 -- ---- 'Points to hold against the page': two of the twelve
@@ -195,5 +195,5 @@ pub record Examples : Type 0 where
   pub zero-south : read latitude (48 ∷ 48 ∷ 48 ∷ 48 ∷ 48 ∷ 48 ∷ 46 ∷ 48 ∷ 48 ∷ 48 ∷ 83 ∷ []) ≡ refused 3
 
 pub examples : Examples
-unfolding read isAngle inSixties angle allDigits number fromPlaces digitOf
+unfolding read isAngle inSixties angle allDigits fromDigits fromPlaces digitOf
 examples = record { pole = refl; zero-south = refl }

@@ -12,7 +12,7 @@ use Rattle.whole.specs.Every.{every}
 use Rattle.whole.specs.Places.{inPlaces}
 use Rattle.whole.proofs.Bools.{both, joined}
 use Rattle.whole.proofs.Places as places
-use Rattle.position.specs.Text.{isDigit, digitOf, byteOf, allDigits, number, digits}
+use Rattle.position.specs.Text.{isDigit, digitOf, byteOf, allDigits, fromDigits, digits}
 
 -- ---- one digit, as a byte and back
 abbrev below-ten : ℕ → Bool
@@ -65,20 +65,20 @@ unfolding digits
 all-digits w n = are-digits (inPlaces 10 w n) (places.places-below 10 (omega arith) w n)
 
 -- its digits say it
-pub number-of : (w n : ℕ) → n < 10 ^ w → number (digits w n) ≡ n
-unfolding digits number
+pub number-of : (w n : ℕ) → n < 10 ^ w → fromDigits (digits w n) ≡ n
+unfolding digits fromDigits
 number-of w n h = rw (digits-there (inPlaces 10 w n)) (places.from-in-places 10 (omega arith) w n h)
 
 -- ---- the number that digits say
-pub number-below : (s : List ℕ) → allDigits s ≡ true → number s < 10 ^ length s
-unfolding number
-number-below s h = subst (λ (w : ℕ). number s < 10 ^ w) (length-map s digitOf) (places.from-below 10 (omega arith) (map digitOf s) (digits-back s h .0))
+pub number-below : (s : List ℕ) → allDigits s ≡ true → fromDigits s < 10 ^ length s
+unfolding fromDigits
+number-below s h = subst (λ (w : ℕ). fromDigits s < 10 ^ w) (length-map s digitOf) (places.from-below 10 (omega arith) (map digitOf s) (digits-back s h .0))
 
 -- said in as many digits, it is these digits
-pub digits-of : (s : List ℕ) → allDigits s ≡ true → digits (length s) (number s) ≡ s
-unfolding digits number
+pub digits-of : (s : List ℕ) → allDigits s ≡ true → digits (length s) (fromDigits s) ≡ s
+unfolding digits fromDigits
 digits-of s h =
     let b = digits-back s h in
-    ap (λ (w : ℕ). digits w (number s)) (sym (length-map s digitOf))
+    ap (λ (w : ℕ). digits w (fromDigits s)) (sym (length-map s digitOf))
     ∙ ap (map byteOf) (places.in-from-places 10 (omega arith) (map digitOf s) (b .0))
     ∙ b .1

@@ -16,7 +16,7 @@ use Rattle.kinds.specs.Answer.{gives}
 use Rattle.kinds.proofs.Answers.{passed, same-value}
 use Rattle.kinds.specs.Bytes.{part}
 use Rattle.kinds.proofs.Bytes.{length-part}
-use Rattle.position.specs.Text.{Coordinate, latitude, longitude, letterN, letterS, letterE, fullStop, places, textLength, inRange, isLetter, letterOf, formed, ms, digits, number, allDigits, degrees, minutes, seconds, point, thousandths, letter, isAngle, inSixties, angle, signed, noZeroSouth, rightKinds, value, rightRanges, read, spelled, text}
+use Rattle.position.specs.Text.{Coordinate, latitude, longitude, letterN, letterS, letterE, fullStop, places, textLength, inRange, isLetter, letterOf, formed, ms, digits, fromDigits, allDigits, degrees, minutes, seconds, point, thousandths, letter, isAngle, inSixties, angle, signed, noZeroSouth, rightKinds, value, rightRanges, read, spelled, text}
 use Rattle.position.proofs.Bytes.{by-bytes}
 use Rattle.position.proofs.Digits.{all-digits, number-of, digits-of, number-below}
 
@@ -51,11 +51,11 @@ module _ (k : Coordinate) {d m s f : ℕ} (b : ℕ) (d< : d < 10 ^ places k) (m<
   unfolding isAngle
   is-angle = simp (p .of-degrees, p .of-minutes, p .of-seconds, p .of-point, p .of-thousandths, all-digits)
 
-  m-is : number (minutes k t) ≡ m
-  m-is = ap number (p .of-minutes) ∙ number-of 2 m (omega arith)
+  m-is : fromDigits (minutes k t) ≡ m
+  m-is = ap fromDigits (p .of-minutes) ∙ number-of 2 m (omega arith)
 
-  s-is : number (seconds k t) ≡ s
-  s-is = ap number (p .of-seconds) ∙ number-of 2 s (omega arith)
+  s-is : fromDigits (seconds k t) ≡ s
+  s-is = ap fromDigits (p .of-seconds) ∙ number-of 2 s (omega arith)
 
   in-sixties : inSixties k t ≡ true
   unfolding inSixties
@@ -112,11 +112,11 @@ are-digits k t h =
     let four = both (allDigits (degrees k t)) (allDigits (minutes k t)) (three .0) in
     record { of-degrees = four .0; of-minutes = four .1; of-seconds = three .1; of-point = two .1; of-thousandths = one .1 }
 
-digits-part : (from n : ℕ) (t : List ℕ) → from + n ≤ length t → allDigits (part from n t) ≡ true → digits n (number (part from n t)) ≡ part from n t
-digits-part from n t h d = ap (λ (w : ℕ). digits w (number (part from n t))) (sym (length-part from n t h)) ∙ digits-of (part from n t) d
+digits-part : (from n : ℕ) (t : List ℕ) → from + n ≤ length t → allDigits (part from n t) ≡ true → digits n (fromDigits (part from n t)) ≡ part from n t
+digits-part from n t h d = ap (λ (w : ℕ). digits w (fromDigits (part from n t))) (sym (length-part from n t h)) ∙ digits-of (part from n t) d
 
-below-part : (from n : ℕ) (t : List ℕ) → from + n ≤ length t → allDigits (part from n t) ≡ true → number (part from n t) < 10 ^ n
-below-part from n t h d = subst (λ (w : ℕ). number (part from n t) < 10 ^ w) (length-part from n t h) (number-below (part from n t) d)
+below-part : (from n : ℕ) (t : List ℕ) → from + n ≤ length t → allDigits (part from n t) ≡ true → fromDigits (part from n t) < 10 ^ n
+below-part from n t h d = subst (λ (w : ℕ). fromDigits (part from n t) < 10 ^ w) (length-part from n t h) (number-below (part from n t) d)
 
 module _ (k : Coordinate) (t : List ℕ) {x : ℤ} (h : read k t ≡ gives x) where
   pub tests : Passed k t x
@@ -125,22 +125,22 @@ module _ (k : Coordinate) (t : List ℕ) {x : ℤ} (h : read k t ≡ gives x) wh
   all : Digits k t
   all = are-digits k t (tests .is-angle)
 
-  pub has-form : formed k (number (degrees k t)) (number (minutes k t)) (number (seconds k t)) (number (thousandths k t)) (letter k t) ≡ t
+  pub has-form : formed k (fromDigits (degrees k t)) (fromDigits (minutes k t)) (fromDigits (seconds k t)) (fromDigits (thousandths k t)) (letter k t) ≡ t
   has-form =
       let l = tests .long in
       simp (digits-part 0 (places k) t (omega arith) (all .of-degrees), digits-part (places k) 2 t (omega arith) (all .of-minutes), digits-part (places k + 2) 2 t (omega arith) (all .of-seconds), digits-part (places k + 5) 3 t (omega arith) (all .of-thousandths), ← eqb-true (point k t) fullStop (all .of-point))
       (rejoined k t l)
 
-  pub degrees-digits : number (degrees k t) < 10 ^ places k
+  pub degrees-digits : fromDigits (degrees k t) < 10 ^ places k
   degrees-digits = below-part 0 (places k) t (omega (arith, tests .long)) (all .of-degrees)
 
-  pub below-sixty : (number (minutes k t) < 60) × (number (seconds k t) < 60)
+  pub below-sixty : (fromDigits (minutes k t) < 60) × (fromDigits (seconds k t) < 60)
   unfolding inSixties
   below-sixty =
-      let p = both (ltb (number (minutes k t)) 60) (ltb (number (seconds k t)) 60) (tests .in-sixties) in
-      (ltb-true (number (minutes k t)) 60 (p .0), ltb-true (number (seconds k t)) 60 (p .1))
+      let p = both (ltb (fromDigits (minutes k t)) 60) (ltb (fromDigits (seconds k t)) 60) (tests .in-sixties) in
+      (ltb-true (fromDigits (minutes k t)) 60 (p .0), ltb-true (fromDigits (seconds k t)) 60 (p .1))
 
-  pub thousandths-digits : number (thousandths k t) < 1000
+  pub thousandths-digits : fromDigits (thousandths k t) < 1000
   thousandths-digits = below-part (places k + 5) 3 t (omega (arith, tests .long)) (all .of-thousandths)
 
   pub in-range : inRange k x ≡ true
@@ -221,5 +221,5 @@ read-writes k t h =
     let s = below-sixty k t h in
     ap (text k) (sym (p .value-is))
     ∙ (λ i. spelled k (l .1 i) (l .0 i))
-    ∙ spelled-formed (number (degrees k t)) (number (minutes k t)) (number (seconds k t)) (number (thousandths k t)) (s .0) (s .1) (thousandths-digits k t h) k (letter k t)
+    ∙ spelled-formed (fromDigits (degrees k t)) (fromDigits (minutes k t)) (fromDigits (seconds k t)) (fromDigits (thousandths k t)) (s .0) (s .1) (thousandths-digits k t h) k (letter k t)
     ∙ has-form k t h

@@ -6,8 +6,7 @@ use Prim.Native.Nat.{ℕ, _+_, _*_, _/_, _%_, _<_}
 use lib.Bits.{bitXor}
 use Rattle.kinds.specs.Bytes.{part}
 use Rattle.numbers.specs.Numbers.{number}
-use Rattle.position.specs.Text as text
-use Rattle.position.specs.Text.{latitude, isAngle, inSixties, angle}
+use Rattle.position.specs.Text.{latitude, fromDigits, minutes, seconds, thousandths, isAngle, inSixties, angle}
 
 -- what a number says: that bytes are not of their kind, that minutes or seconds are from 60 up, or the ms
 abbrev pub says : ℕ → Bool → Bool → ℕ → Type 0
@@ -26,5 +25,5 @@ figures t = bitXor (number (part 2 8 t)) 3472328296194125872
 -- a word that says them in pairs of digits
 abbrev pub inPairs : ℕ → List ℕ → Type 0
 inPairs w t =
-    (w / 281474976710656 % 256 ≡ text.number (text.minutes latitude t)) × (w / 4294967296 % 256 ≡ text.number (text.seconds latitude t))
-    × (w / 65536 % 256 * 100 + w % 256 ≡ text.number (text.thousandths latitude t))
+    (w / 281474976710656 % 256 ≡ fromDigits (minutes latitude t)) × (w / 4294967296 % 256 ≡ fromDigits (seconds latitude t))
+    × (w / 65536 % 256 * 100 + w % 256 ≡ fromDigits (thousandths latitude t))

@@ -65,8 +65,8 @@ unfoldable pub allDigits : List ℕ → Bool
 allDigits t = every isDigit t
 
 -- the number that digits say, the first counting most
-unfoldable pub number : List ℕ → ℕ
-number t = fromPlaces 10 (map digitOf t)
+unfoldable pub fromDigits : List ℕ → ℕ
+fromDigits t = fromPlaces 10 (map digitOf t)
 
 -- n in so many digits
 unfoldable pub digits : ℕ → ℕ → List ℕ
@@ -112,11 +112,11 @@ isAngle k t =
 
 -- minutes and seconds are below 60
 unfoldable pub inSixties : Coordinate → List ℕ → Bool
-inSixties k t = ltb (number (minutes k t)) 60 && ltb (number (seconds k t)) 60
+inSixties k t = ltb (fromDigits (minutes k t)) 60 && ltb (fromDigits (seconds k t)) 60
 
 -- the ms before the letter
 unfoldable pub angle : Coordinate → List ℕ → ℕ
-angle k t = ms (number (degrees k t)) (number (minutes k t)) (number (seconds k t)) (number (thousandths k t))
+angle k t = ms (fromDigits (degrees k t)) (fromDigits (minutes k t)) (fromDigits (seconds k t)) (fromDigits (thousandths k t))
 
 -- S stands for a number below zero
 abbrev pub signed : ℕ → ℕ → ℤ

@@ -18,7 +18,7 @@ ghost use Rattle.kinds.specs.Answer.{provided, numberOf, counted, lent};
 ghost use Rattle.kinds.specs.Cases.{localLatitude, localLongitude, written};
 ghost use Rattle.kinds.specs.Kinds.{isLatitude, tested};
 ghost use Rattle.position.specs.Inside.{figures, inPairs, saysAngle};
-ghost use Rattle.position.specs.Text.{latitude, longitude, isDigit, digitOf, number, degrees, isAngle, inSixties, angle, read, spelled, write};
+ghost use Rattle.position.specs.Text.{latitude, longitude, isDigit, digitOf, fromDigits, degrees, isAngle, inSixties, angle, read, spelled, write};
 
 // Reads the 11 bytes `ddmmss.sssN` or `S` into ms, north positive: `900000.000N` is 324000000. Refused: 1 another length, 2 a
 // byte that is not of its kind, 3 minutes or seconds from 60 up, past 90°, or S after zero.
@@ -183,7 +183,7 @@ fn pairs(t: &[u8]) -> u64
 fn degrees(t: &[u8]) -> u64
     requires { ⌜ length (now t) ≡ 11 ⌝ }
     requires { ⌜ isAngle latitude (now t) ≡ true ⌝ }
-    ensures { λ r. ⌜ r ≡ number (degrees latitude (now (t .entry))) ⌝ }
+    ensures { λ r. ⌜ r ≡ fromDigits (degrees latitude (now (t .entry))) ⌝ }
     ensures { λ r. ⌜ r < 100 ⌝ }
 {
     digit(t[0]) * 10 + digit(t[1])

@@ -11,7 +11,7 @@ use Rattle.whole.specs.Every.{every}
 use Rattle.whole.specs.Places.{fromPlaces, inPlaces}
 use Rattle.whole.specs.Round.{roundDiv}
 use Rattle.kinds.specs.Answer.{gives, refused}
-use Rattle.position.specs.Text.{digitOf, allDigits, number, digits, isAngle, inSixties, angle}
+use Rattle.position.specs.Text.{digitOf, allDigits, fromDigits, digits, isAngle, inSixties, angle}
 use Rattle.equation.specs.Powers.{power, powersOf}
 use Rattle.equation.specs.Equation.{sum}
 use Rattle.decimal.specs.Decimal.{unpadded, decimal, printedNumber}
@@ -197,5 +197,5 @@ pub example : output
     ∷ 55 ∷ 52 ∷ 54 ∷ 52 ∷ lineFeed
     -- refused 6
     ∷ 114 ∷ 101 ∷ 102 ∷ 117 ∷ 115 ∷ 101 ∷ 100 ∷ 32 ∷ 54 ∷ lineFeed ∷ []
-unfolding refusedLine printed ended begunAfter flatMap answerLine printedNumber decimal unpadded digits inPlaces digitOf allDigits number fromPlaces isAngle inSixties angle roundDiv power powersOf sum
+unfolding refusedLine printed ended begunAfter flatMap answerLine printedNumber decimal unpadded digits inPlaces digitOf allDigits fromDigits fromPlaces isAngle inSixties angle roundDiv power powersOf sum
 example = refl
