@@ -92,7 +92,7 @@ pub extern "C" fn buckettin_shift(code: i64, latitude_ms: i64, longitude_ms: i64
             shifts.longitude.units(),
             shifts.height.mm(),
         ),
-        ShiftAnswer::Refused(why) => Shift::of(number(why), 0, 0, 0),
+        ShiftAnswer::Refused(why) => Shift::of(refusal_number(why), 0, 0, 0),
     }
 }
 
@@ -102,7 +102,7 @@ pub extern "C" fn buckettin_geoid(code: i64, latitude_ms: i64, longitude_ms: i64
 {
     match datum::geoid(code, latitude_ms, longitude_ms) {
         HeightAnswer::Gives(height) => Geoid::of(0, height.mm()),
-        HeightAnswer::Refused(why) => Geoid::of(number(why), 0),
+        HeightAnswer::Refused(why) => Geoid::of(refusal_number(why), 0),
     }
 }
 
@@ -140,7 +140,7 @@ pub extern "C" fn buckettin_read_latitude(text: &[u8]) -> Read
 {
     match position::read_latitude(text) {
         LocalLatitudeAnswer::Gives(latitude) => Read::of(0, latitude.ms()),
-        LocalLatitudeAnswer::Refused(why) => Read::of(number(why), 0),
+        LocalLatitudeAnswer::Refused(why) => Read::of(refusal_number(why), 0),
     }
 }
 
@@ -150,7 +150,7 @@ pub extern "C" fn buckettin_read_longitude(text: &[u8]) -> Read
 {
     match position::read_longitude(text) {
         LocalLongitudeAnswer::Gives(longitude) => Read::of(0, longitude.ms()),
-        LocalLongitudeAnswer::Refused(why) => Read::of(number(why), 0),
+        LocalLongitudeAnswer::Refused(why) => Read::of(refusal_number(why), 0),
     }
 }
 
@@ -193,11 +193,11 @@ fn in_numbers(answer: WrittenAnswer) -> Written
 {
     match answer {
         WrittenAnswer::Gives(count) => Written::of(0, count as u32),
-        WrittenAnswer::Refused(why) => Written::of(number(why), 0),
+        WrittenAnswer::Refused(why) => Written::of(refusal_number(why), 0),
     }
 }
 
-fn number(why: Refusal) -> u32
+fn refusal_number(why: Refusal) -> u32
     ensures { λ r. ⌜ r ≡ numberOf why ⌝ }
 {
     why.number() as u32

@@ -25,8 +25,8 @@ of-requires c κs = search needs
 enum-known-why : tie.Need-enum-known-why
 enum-known-why c = search needs
 
-number-requires : tie.Need-number-requires
-number-requires c κs = search needs
+refusal-number-requires : tie.Need-refusal-number-requires
+refusal-number-requires c κs = search needs
 
 of-requires-2 : tie.Need-of-requires-2
 of-requires-2 c κs = search needs
@@ -46,7 +46,7 @@ returns-2 c =
     let call = m .before .before in
     let s = call .before in
     c .of2 .ensures
-    ∙ (λ i. record { refusal = c .before .number .ensures i; n = pos 0 })
+    ∙ (λ i. record { refusal = c .before .refusal-number .ensures i; n = pos 0 })
     ∙ found (s .fits .code) (s .fits .latitude-ms) (s .fits .longitude-ms) geoidAnswer geoidFields geoidOf (call .geoid .ensures) (m .why .given .1)
 
 pub buckettin-geoid-spec : {M : Type 1} → statement M
@@ -58,7 +58,7 @@ buckettin-geoid-spec =
     mm-requires
     of-requires
     enum-known-why
-    number-requires
+    refusal-number-requires
     of-requires-2
     returns
     returns-2)

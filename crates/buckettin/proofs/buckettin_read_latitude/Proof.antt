@@ -23,8 +23,8 @@ of-requires c κs = search needs
 enum-known-why : tie.Need-enum-known-why
 enum-known-why c = search needs
 
-number-requires : tie.Need-number-requires
-number-requires c κs = search needs
+refusal-number-requires : tie.Need-refusal-number-requires
+refusal-number-requires c κs = search needs
 
 of-requires-2 : tie.Need-of-requires-2
 of-requires-2 c κs = search needs
@@ -37,7 +37,7 @@ returns c =
 returns-2 : tie.Need-returns-2
 returns-2 c =
     let m = c .before .before .before in
-    c .of2 .ensures ∙ (λ i. record { refusal = c .before .number .ensures i; ms = pos 0 }) ∙ ap readFields (ap localLatitude (sym (m .why .given .1)) ∙ m .before .before .read-latitude .ensures)
+    c .of2 .ensures ∙ (λ i. record { refusal = c .before .refusal-number .ensures i; ms = pos 0 }) ∙ ap readFields (ap localLatitude (sym (m .why .given .1)) ∙ m .before .before .read-latitude .ensures)
 
 pub buckettin-read-latitude-spec : {M : Type 1} → statement M
 buckettin-read-latitude-spec =
@@ -48,7 +48,7 @@ buckettin-read-latitude-spec =
     ms-requires
     of-requires
     enum-known-why
-    number-requires
+    refusal-number-requires
     of-requires-2
     returns
     returns-2)

@@ -31,8 +31,8 @@ of-requires c κs = search needs
 enum-known-why : tie.Need-enum-known-why
 enum-known-why c = search needs
 
-number-requires : tie.Need-number-requires
-number-requires c κs = search needs
+refusal-number-requires : tie.Need-refusal-number-requires
+refusal-number-requires c κs = search needs
 
 of-requires-2 : tie.Need-of-requires-2
 of-requires-2 c κs = search needs
@@ -52,7 +52,7 @@ returns-2 c =
     let call = m .before .before in
     let s = call .before in
     c .of2 .ensures
-    ∙ (λ i. record { refusal = c .before .number .ensures i; dlat = pos 0; dlon = pos 0; dh = pos 0 })
+    ∙ (λ i. record { refusal = c .before .refusal-number .ensures i; dlat = pos 0; dlon = pos 0; dh = pos 0 })
     ∙ found (s .fits .code) (s .fits .latitude-ms) (s .fits .longitude-ms) shiftAnswer shiftFields shiftOf (call .shift .ensures) (m .why .given .1)
 
 pub buckettin-shift-spec : {M : Type 1} → statement M
@@ -66,7 +66,7 @@ buckettin-shift-spec =
     mm-requires
     of-requires
     enum-known-why
-    number-requires
+    refusal-number-requires
     of-requires-2
     returns
     returns-2)

@@ -21,8 +21,8 @@ of-requires c κs = search needs
 enum-known-answer-2 : tie.Need-enum-known-answer-2
 enum-known-answer-2 c = search needs
 
-number-requires : tie.Need-number-requires
-number-requires c κs = search needs
+refusal-number-requires : tie.Need-refusal-number-requires
+refusal-number-requires c κs = search needs
 
 of-requires-2 : tie.Need-of-requires-2
 of-requires-2 c κs = search needs
@@ -34,7 +34,7 @@ returns c =
 returns-2 : tie.Need-returns-2
 returns-2 c =
     c .of2 .ensures
-    ∙ (λ i. record { refusal = c .before .number .ensures i; written = 0 })
+    ∙ (λ i. record { refusal = c .before .refusal-number .ensures i; written = 0 })
     ∙ ap (λ (a : WrittenAnswer). writtenFields (written a)) (sym (c .before .before .before .answer2 .given .1))
 
 pub in-numbers-spec : {M : Type 1} → statement M
@@ -45,7 +45,7 @@ in-numbers-spec =
     cast-of
     of-requires
     enum-known-answer-2
-    number-requires
+    refusal-number-requires
     of-requires-2
     returns
     returns-2)
