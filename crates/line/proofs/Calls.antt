@@ -9,7 +9,7 @@ use Rattle.whole.proofs.Bools.{both}
 use Rattle.kinds.specs.Answer.{Answer, gives, refused, inOrder, placed, counted, lent, following}
 use Rattle.kinds.proofs.Answers.{same-value, all-held, held, first-failed, fails, in-two, following-tests}
 use Rattle.kinds.proofs.Writing.{Written}
-use Rattle.position.specs.Text.{latitude, longitude, letter, angle, inSixties, noZeroSouth, inRange, rightRanges}
+use Rattle.position.specs.Text.{latitude, longitude, letter, angle, inSixties, noZeroSouth, hasText, rightRanges}
 use Rattle.tables.specs.Page.{Family}
 use Rattle.tables.specs.Rule.{worked}
 use Rattle.datum.specs.Point.{answerOf, pageOf}
@@ -39,8 +39,8 @@ module _ (said : Said) {c n e : ℤ} (is-c : c ≡ said .code) (is-n : n ≡ sai
 pub in-range : (t : List ℕ) → lineRanges t ≡ true → answerOf (code t) (latitudeOf t) (longitudeOf t) ≡ inOrder (pointTests t) (gives (worked (pageOf (code t)) (latitudeOf t) (longitudeOf t)))
 in-range t h =
     let r = both (rightRanges latitude (latitudeText t)) (rightRanges longitude (longitudeText t)) h in
-    let north = both (inSixties latitude (latitudeText t) && noZeroSouth (letter latitude (latitudeText t)) (angle latitude (latitudeText t))) (inRange latitude (latitudeOf t)) (r .0) .1 in
-    let east = both (inSixties longitude (longitudeText t) && noZeroSouth (letter longitude (longitudeText t)) (angle longitude (longitudeText t))) (inRange longitude (longitudeOf t)) (r .1) .1 in
+    let north = both (inSixties latitude (latitudeText t) && noZeroSouth (letter latitude (latitudeText t)) (angle latitude (latitudeText t))) (hasText latitude (latitudeOf t)) (r .0) .1 in
+    let east = both (inSixties longitude (longitudeText t) && noZeroSouth (letter longitude (longitudeText t)) (angle longitude (longitudeText t))) (hasText longitude (longitudeOf t)) (r .1) .1 in
     simp (north, east)
 
 -- what was read is answered as the line is

@@ -13,7 +13,7 @@ use Rattle.whole.proofs.Bools.{either}
 use Rattle.kinds.specs.Answer.{gives, refused, AllHold, FirstFails, inOrder, placed}
 use Rattle.kinds.proofs.Answers.{held, first-number, in-two, following-tests}
 use Rattle.kinds.proofs.Demands as kinds
-use Rattle.position.specs.Text.{latitude, longitude, inRange, allDigits, fromDigits, digitOf, digits, isAngle, inSixties, angle}
+use Rattle.position.specs.Text.{latitude, longitude, hasText, allDigits, fromDigits, digitOf, digits, isAngle, inSixties, angle}
 use Rattle.tables.specs.Page.{Family, shift, geoid, isEither}
 use Rattle.tables.specs.Rule as rule
 use Rattle.datum.specs.Point.{answerOf, pageOf}
@@ -35,7 +35,7 @@ answered-as line all =
     ∙ sym (in-range line (all .1 .1 .0))
 
 -- a line that is made of a digit and a position in range is read as them, and so answered
-pub made-reads : (digit : ℕ) (north east : ℤ) → digit < 10 → inRange latitude north ≡ true → inRange longitude east ≡ true
+pub made-reads : (digit : ℕ) (north east : ℤ) → digit < 10 → hasText latitude north ≡ true → hasText longitude east ≡ true
     → AllHold (readTests (lineBytes digit north east)) × (answerTo (lineBytes digit north east) ≡ answerOf (pos digit) north east)
 made-reads digit north east d n e =
     let says = form.made-says digit north east d n e in
@@ -44,7 +44,7 @@ made-reads digit north east d n e =
 
 -- and a line that is read was so made: no other bytes are
 pub reads-made : (line : List ℕ) → AllHold (readTests line)
-    → (digitOf (codeByte line) < 10) × ((inRange latitude (latitudeOf line) ≡ true) × ((inRange longitude (longitudeOf line) ≡ true) × (line ≡ lineBytes (digitOf (codeByte line)) (latitudeOf line) (longitudeOf line))))
+    → (digitOf (codeByte line) < 10) × ((hasText latitude (latitudeOf line) ≡ true) × ((hasText longitude (longitudeOf line) ≡ true) × (line ≡ lineBytes (digitOf (codeByte line)) (latitudeOf line) (longitudeOf line))))
 reads-made line all = form.read-made line all
 
 -- ---- 'Per line: 1, then 2 over the whole line, then 3, 4, 6, then 7'

@@ -13,7 +13,7 @@ use Rattle.whole.proofs.Bools.{both, joined}
 use Rattle.kinds.specs.Answer.{gives, provided, AllHold}
 use Rattle.kinds.proofs.Answers.{passed, same-value}
 use Rattle.kinds.proofs.Bytes.{length-part}
-use Rattle.position.specs.Text.{Coordinate, latitude, longitude, textLength, inRange, isDigit, digitOf, byteOf, rightKinds, rightRanges, value, read, text}
+use Rattle.position.specs.Text.{Coordinate, latitude, longitude, textLength, hasText, isDigit, digitOf, byteOf, rightKinds, rightRanges, value, read, text}
 use Rattle.position.proofs.Reading.{right-length}
 use Rattle.position.proofs.Demands as position
 use Rattle.line.specs.Line.{space, codeByte, latitudeText, longitudeText, code, latitudeOf, longitudeOf, readTests}
@@ -62,7 +62,7 @@ module _ (digit : ℕ) (north east : ℤ) where
   unfolding lineBytes digitOf
   digit-read = ap pos (omega arith)
 
-  module _ (d : digit < 10) (n : inRange latitude north ≡ true) (e : inRange longitude east ≡ true) where
+  module _ (d : digit < 10) (n : hasText latitude north ≡ true) (e : hasText longitude east ≡ true) where
     north-kept : (rightKinds latitude (latitudeText made) ≡ true) × ((rightRanges latitude (latitudeText made) ≡ true) × (latitudeOf made ≡ north))
     north-kept = tests-kept latitude (latitudeText made) (ap (read latitude) north-text ∙ position.text-reads latitude north n)
 
@@ -117,13 +117,13 @@ module _ (t : List ℕ) (all : AllHold (readTests t)) where
   ranges = both (rightRanges latitude (latitudeText t)) (rightRanges longitude (longitudeText t)) (all .1 .1 .0)
 
   -- the text that was read is that of its number
-  of-number : (k : Coordinate) (s : List ℕ) → read k s ≡ gives (value k s) → (inRange k (value k s) ≡ true) × (s ≡ text k (value k s))
+  of-number : (k : Coordinate) (s : List ℕ) → read k s ≡ gives (value k s) → (hasText k (value k s) ≡ true) × (s ≡ text k (value k s))
   of-number k s h = position.written-is k (value k s) (textLength k) (position.read-writes k s h (textLength k) (omega arith))
 
-  north-is : (inRange latitude (latitudeOf t) ≡ true) × (latitudeText t ≡ text latitude (latitudeOf t))
+  north-is : (hasText latitude (latitudeOf t) ≡ true) × (latitudeText t ≡ text latitude (latitudeOf t))
   north-is = of-number latitude (latitudeText t) (kept-tests latitude (latitudeText t) (length-part 2 11 t (omega (arith, long))) (kinds .1 .1 .0) (ranges .0))
 
-  east-is : (inRange longitude (longitudeOf t) ≡ true) × (longitudeText t ≡ text longitude (longitudeOf t))
+  east-is : (hasText longitude (longitudeOf t) ≡ true) × (longitudeText t ≡ text longitude (longitudeOf t))
   east-is = of-number longitude (longitudeText t) (kept-tests longitude (longitudeText t) (length-part 14 12 t (omega (arith, long))) (kinds .1 .1 .1 .1) (ranges .1))
 
   digit-is : (digitOf (codeByte t) < 10) × (byteOf (digitOf (codeByte t)) ≡ codeByte t)
@@ -134,6 +134,6 @@ module _ (t : List ℕ) (all : AllHold (readTests t)) where
       let high = leb-true (codeByte t) 57 (b .1) in
       (omega (arith, high), omega (arith, low))
 
-  pub read-made : (digitOf (codeByte t) < 10) × ((inRange latitude (latitudeOf t) ≡ true) × ((inRange longitude (longitudeOf t) ≡ true) × (t ≡ lineBytes (digitOf (codeByte t)) (latitudeOf t) (longitudeOf t))))
+  pub read-made : (digitOf (codeByte t) < 10) × ((hasText latitude (latitudeOf t) ≡ true) × ((hasText longitude (longitudeOf t) ≡ true) × (t ≡ lineBytes (digitOf (codeByte t)) (latitudeOf t) (longitudeOf t))))
   unfolding lineBytes
   read-made = (digit-is .0, (north-is .0, (east-is .0, in-parts ∙ (λ i. sym (digit-is .1) i ∷ kinds .1 .0 i ∷ (north-is .1 i ++ (kinds .1 .1 .1 .0 i ∷ east-is .1 i))))))

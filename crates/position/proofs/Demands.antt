@@ -15,13 +15,13 @@ use Rattle.whole.specs.Places.{fromPlaces}
 use Rattle.kinds.specs.Answer.{Answer, gives, refused, lent}
 use Rattle.kinds.proofs.Answers.{one-of, first-failed, fails-at}
 use Rattle.kinds.proofs.Demands.{written-where, unwritten-where}
-use Rattle.position.specs.Text.{Coordinate, latitude, longitude, fullStop, places, textLength, inRange, isLetter, isDigit, formed, ms, digitOf, allDigits, fromDigits, degrees, minutes, seconds, thousandths, letter, isAngle, inSixties, angle, signed, noZeroSouth, rightKinds, rightRanges, value, readTests, read, text, writeTests, write}
+use Rattle.position.specs.Text.{Coordinate, latitude, longitude, fullStop, places, textLength, hasText, isLetter, isDigit, formed, ms, digitOf, allDigits, fromDigits, degrees, minutes, seconds, thousandths, letter, isAngle, inSixties, angle, signed, noZeroSouth, rightKinds, rightRanges, value, readTests, read, text, writeTests, write}
 use Rattle.position.proofs.Bytes.{by-bytes}
 use Rattle.position.proofs.Trip as trip
 
 -- ---- 'Writing needs 11 or 12 bytes of a lent buffer'
 -- a number in range is written where there is room for its text
-pub writes : (k : Coordinate) (x : ℤ) (room : ℕ) → inRange k x ≡ true → textLength k ≤ room → write k x room ≡ gives (text k x)
+pub writes : (k : Coordinate) (x : ℤ) (room : ℕ) → hasText k x ≡ true → textLength k ≤ room → write k x room ≡ gives (text k x)
 unfolding write
 writes k x room h r = written-where (writeTests k x) (text k x) room refl (text k x) .1 ((h, tt), (omega (arith, trip.text-length k x), refl))
 
@@ -31,11 +31,11 @@ text-length k x = trip.text-length k x
 
 -- ---- 'so each number has one text'
 -- the text of every number in range is read as that number
-pub text-reads : (k : Coordinate) (x : ℤ) → inRange k x ≡ true → read k (text k x) ≡ gives x
+pub text-reads : (k : Coordinate) (x : ℤ) → hasText k x ≡ true → read k (text k x) ≡ gives x
 text-reads k x h = trip.written-reads k x h
 
 -- what was written for a number is its text
-pub written-is : (k : Coordinate) (x : ℤ) (room : ℕ) {t : List ℕ} → write k x room ≡ gives t → (inRange k x ≡ true) × (t ≡ text k x)
+pub written-is : (k : Coordinate) (x : ℤ) (room : ℕ) {t : List ℕ} → write k x room ≡ gives t → (hasText k x ≡ true) × (t ≡ text k x)
 unfolding write
 written-is k x room {t} h =
     let p = written-where (writeTests k x) (text k x) room refl t .0 h in
@@ -73,7 +73,7 @@ pub record TextOf (k : Coordinate) (t : List ℕ) (x : ℤ) : Type 0 where
   pub b-letter : isLetter k b ≡ true
   pub not-zero-south : noZeroSouth b (ms d m s f) ≡ true
   pub value : signed b (ms d m s f) ≡ x
-  pub range : inRange k x ≡ true
+  pub range : hasText k x ≡ true
 
 -- a text is accepted, as x, exactly when it is the text of x
 pub accepted : (k : Coordinate) (t : List ℕ) (x : ℤ) → (read k t ≡ gives x) ↔ TextOf k t x
@@ -101,7 +101,7 @@ accepted k t x = (of-reading, of-form)
     of-form : TextOf k t x → read k t ≡ gives x
     of-form f =
         ap (read k) (f .form)
-        ∙ trip.reads k (f .b) (f .d-digits) (f .m-below) (f .s-below) (f .f-digits) (f .b-letter) (f .not-zero-south) (subst (λ (x : ℤ). inRange k x ≡ true) (sym (f .value)) (f .range))
+        ∙ trip.reads k (f .b) (f .d-digits) (f .m-below) (f .s-below) (f .f-digits) (f .b-letter) (f .not-zero-south) (subst (λ (x : ℤ). hasText k x ≡ true) (sym (f .value)) (f .range))
         ∙ ap gives (f .value)
 
 -- ---- 'For a position text: 1, 2, 3': when each number is given
@@ -150,7 +150,7 @@ byte-by-byte longitude = by-bytes 12 _ (λ f. simp (and-true, and-assoc))
 
 -- ---- 'For writing one: 3, 7'
 module _ (k : Coordinate) (x : ℤ) (room : ℕ) where
-  pub written-3 : (write k x room ≡ refused 3) ↔ (inRange k x ≡ false)
+  pub written-3 : (write k x room ≡ refused 3) ↔ (hasText k x ≡ false)
   unfolding write
   written-3 =
       let at = unwritten-where (writeTests k x) (text k x) room refl 3 in (
@@ -158,7 +158,7 @@ module _ (k : Coordinate) (x : ℤ) (room : ℕ) where
         (λ h. at .1 (inl (inl (h, refl)))),
       )
 
-  pub written-7 : (write k x room ≡ refused 7) ↔ ((inRange k x ≡ true) × (room < textLength k))
+  pub written-7 : (write k x room ≡ refused 7) ↔ ((hasText k x ≡ true) × (room < textLength k))
   unfolding write
   written-7 =
       let at = unwritten-where (writeTests k x) (text k x) room refl 7 in (

@@ -12,7 +12,7 @@ use Rattle.whole.proofs.Bools.{joined}
 use Rattle.kinds.specs.Answer.{Answer, gives, refused, provided}
 use Rattle.kinds.specs.Kinds.{tested}
 use Rattle.position.specs.Inside.{says}
-use Rattle.position.specs.Text.{Coordinate, letterS, textLength, letter, isLetter, isAngle, inSixties, angle, inRange, rightKinds, value, rightRanges, read}
+use Rattle.position.specs.Text.{Coordinate, letterS, textLength, letter, isLetter, isAngle, inSixties, angle, hasText, rightKinds, value, rightRanges, read}
 
 -- tests of which two fail, whatever the third
 pub two-fail : (a b c : Bool) → (a && c) ≡ false → ((a && b) && c) ≡ false
@@ -49,10 +49,10 @@ module _ (k : Coordinate) (t : List ℕ) where
         abbrev x : ℤ
         x = negℤ (pos (angle k t))
 
-        pub south : letter k t ≡ letterS → provided (not (eqb (angle k t) 0)) 3 (tested (inRange k x) x) ≡ read k t
-        south h = sym (right-length long ∙ simp (kinds, sixties, eq-eqb (letter k t) letterS h) (sym (in-turn (not (eqb (angle k t) 0)) (inRange k x) 3 (gives x))))
+        pub south : letter k t ≡ letterS → provided (not (eqb (angle k t) 0)) 3 (tested (hasText k x) x) ≡ read k t
+        south h = sym (right-length long ∙ simp (kinds, sixties, eq-eqb (letter k t) letterS h) (sym (in-turn (not (eqb (angle k t) 0)) (hasText k x) 3 (gives x))))
 
-        pub not-south : (letter k t ≡ letterS → ⊥) → tested (inRange k (pos (angle k t))) (pos (angle k t)) ≡ read k t
+        pub not-south : (letter k t ≡ letterS → ⊥) → tested (hasText k (pos (angle k t))) (pos (angle k t)) ≡ read k t
         not-south h = sym (right-length long ∙ simp (kinds, sixties, ne-eqb (letter k t) letterS h))
 
 -- ---- what one number says of an angle

@@ -16,7 +16,7 @@ use Rattle.kinds.specs.Answer.{gives}
 use Rattle.kinds.proofs.Answers.{passed, same-value}
 use Rattle.kinds.specs.Bytes.{part}
 use Rattle.kinds.proofs.Bytes.{length-part}
-use Rattle.position.specs.Text.{Coordinate, latitude, longitude, letterN, letterS, letterE, fullStop, places, textLength, inRange, isLetter, letterOf, formed, ms, digits, fromDigits, allDigits, degrees, minutes, seconds, point, thousandths, letter, isAngle, inSixties, angle, signed, noZeroSouth, rightKinds, value, rightRanges, read, spelled, text}
+use Rattle.position.specs.Text.{Coordinate, latitude, longitude, letterN, letterS, letterE, fullStop, places, textLength, hasText, isLetter, letterOf, formed, ms, digits, fromDigits, allDigits, degrees, minutes, seconds, point, thousandths, letter, isAngle, inSixties, angle, signed, noZeroSouth, rightKinds, value, rightRanges, read, spelled, text}
 use Rattle.position.proofs.Bytes.{by-bytes}
 use Rattle.position.proofs.Digits.{all-digits, number-of, digits-of, number-below}
 
@@ -65,7 +65,7 @@ module _ (k : Coordinate) {d m s f : ℕ} (b : ℕ) (d< : d < 10 ^ places k) (m<
   unfolding angle
   angle-is = simp (m-is, s-is, p .of-degrees, p .of-thousandths, number-of (places k) d d<, number-of 3 f f<)
 
-  pub reads : isLetter k b ≡ true → noZeroSouth b (ms d m s f) ≡ true → inRange k (signed b (ms d m s f)) ≡ true → read k t ≡ gives (signed b (ms d m s f))
+  pub reads : isLetter k b ≡ true → noZeroSouth b (ms d m s f) ≡ true → hasText k (signed b (ms d m s f)) ≡ true → read k t ≡ gives (signed b (ms d m s f))
   unfolding read
   reads l z r = simp (eq-eqb (length t) (textLength k) (p .long), is-angle, p .of-letter, l, in-sixties, angle-is, z, r)
 
@@ -81,7 +81,7 @@ pub record Passed (k : Coordinate) (t : List ℕ) (x : ℤ) : Type 0 where
   pub is-letter : isLetter k (letter k t) ≡ true
   pub in-sixties : inSixties k t ≡ true
   pub no-zero-south : noZeroSouth (letter k t) (angle k t) ≡ true
-  pub in-range : inRange k (value k t) ≡ true
+  pub in-range : hasText k (value k t) ≡ true
   pub value-is : value k t ≡ x
 
 accepted : (k : Coordinate) (t : List ℕ) {x : ℤ} → read k t ≡ gives x → Passed k t x
@@ -91,7 +91,7 @@ accepted k t h =
     let two = passed (rightKinds k t) 2 _ (one .1) in
     let three = passed (rightRanges k t) 3 _ (two .1) in
     let kinds = both (isAngle k t) (isLetter k (letter k t)) (two .0) in
-    let range = both (inSixties k t && noZeroSouth (letter k t) (angle k t)) (inRange k (value k t)) (three .0) in
+    let range = both (inSixties k t && noZeroSouth (letter k t) (angle k t)) (hasText k (value k t)) (three .0) in
     let below = both (inSixties k t) (noZeroSouth (letter k t) (angle k t)) (range .0) in
     record { long = eqb-true (length t) (textLength k) (one .0); is-angle = kinds .0; is-letter = kinds .1; in-sixties = below .0; no-zero-south = below .1; in-range = range .1; value-is = same-value (three .1) }
 
@@ -143,8 +143,8 @@ module _ (k : Coordinate) (t : List ℕ) {x : ℤ} (h : read k t ≡ gives x) wh
   pub thousandths-digits : fromDigits (thousandths k t) < 1000
   thousandths-digits = below-part (places k + 5) 3 t (omega (arith, tests .long)) (all .of-thousandths)
 
-  pub in-range : inRange k x ≡ true
-  in-range = subst (λ (x : ℤ). inRange k x ≡ true) (tests .value-is) (tests .in-range)
+  pub in-range : hasText k x ≡ true
+  in-range = subst (λ (x : ℤ). hasText k x ≡ true) (tests .value-is) (tests .in-range)
 
 -- ---- ms in degrees, minutes, seconds and thousandths
 module _ (d m s f : ℕ) (m< : m < 60) (s< : s < 60) (f< : f < 1000) where
@@ -175,7 +175,7 @@ ms-formed n = omega arith
 
 -- ---- the letters
 -- a number's letter is one of its kind, and says its sign
-letter-of : (k : Coordinate) (x : ℤ) → inRange k x ≡ true → (isLetter k (letterOf k x) ≡ true) × ((noZeroSouth (letterOf k x) (natAbs x) ≡ true) × (signed (letterOf k x) (natAbs x) ≡ x))
+letter-of : (k : Coordinate) (x : ℤ) → hasText k x ≡ true → (isLetter k (letterOf k x) ≡ true) × ((noZeroSouth (letterOf k x) (natAbs x) ≡ true) × (signed (letterOf k x) (natAbs x) ≡ x))
 letter-of latitude (pos n) h = (refl, (refl, refl))
 letter-of latitude (negsuc n) h = (refl, (ap not (ne-eqb (suc n) 0 (λ e. omega arith)), refl))
 letter-of longitude (pos n) h = (refl, (refl, refl))
@@ -197,14 +197,14 @@ letter-back latitude b n l z =
 letter-back longitude b n l z = subst (λ (b : ℕ). (letterE ≡ b) × (natAbs (signed b n) ≡ n)) (sym (eqb-true b letterE l)) (refl, refl)
 
 -- the digits of the degrees are enough
-degrees-below : (k : Coordinate) (x : ℤ) → inRange k x ≡ true → natAbs x / 1000 / 60 / 60 < 10 ^ places k
+degrees-below : (k : Coordinate) (x : ℤ) → hasText k x ≡ true → natAbs x / 1000 / 60 / 60 < 10 ^ places k
 degrees-below latitude (pos n) h = omega (arith, leb-true n 324000000 (both (leZ (negsuc 323999999) (pos n)) (leb n 324000000) h .1))
 degrees-below latitude (negsuc n) h = omega (arith, leb-true n 323999999 (both (leb n 323999999) true h .0))
 degrees-below longitude (pos n) h = omega (arith, leb-true n 1295999999 (both (leb 0 n) (leb n 1295999999) h .1))
 degrees-below longitude (negsuc n) h = absurd (false≢true h)
 
 -- ---- there and back
-pub written-reads : (k : Coordinate) (x : ℤ) → inRange k x ≡ true → read k (text k x) ≡ gives x
+pub written-reads : (k : Coordinate) (x : ℤ) → hasText k x ≡ true → read k (text k x) ≡ gives x
 unfolding spelled
 written-reads k x h =
     let n = natAbs x in

@@ -36,9 +36,9 @@ places latitude = 2
 places longitude = 3
 
 -- the numbers that have a text
-abbrev pub inRange : Coordinate → ℤ → Bool
-inRange latitude x = isLatitude x
-inRange longitude x = isLongitude x
+abbrev pub hasText : Coordinate → ℤ → Bool
+hasText latitude x = isLatitude x
+hasText longitude x = isLongitude x
 
 -- the letters that may end it
 abbrev pub isLetter : Coordinate → ℕ → Bool
@@ -136,7 +136,7 @@ value k t = signed (letter k t) (angle k t)
 
 -- minutes, seconds and the number are in range
 abbrev pub rightRanges : Coordinate → List ℕ → Bool
-rightRanges k t = inSixties k t && noZeroSouth (letter k t) (angle k t) && inRange k (value k t)
+rightRanges k t = inSixties k t && noZeroSouth (letter k t) (angle k t) && hasText k (value k t)
 
 -- 'For a position text: 1, 2, 3'
 abbrev pub readTests : Coordinate → List ℕ → List Test
@@ -159,7 +159,7 @@ text k x = spelled k (natAbs x) (letterOf k x)
 
 -- 'For writing one: 3, 7', to a lent buffer with room for so many bytes
 abbrev pub writeTests : Coordinate → ℤ → List Test
-writeTests k x = (inRange k x else 3) ∷ []
+writeTests k x = (hasText k x else 3) ∷ []
 
 unfoldable pub write : Coordinate → ℤ → ℕ → Answer (List ℕ)
 write k x room = inOrder (writeTests k x) (placed (text k x) room)
