@@ -15,7 +15,7 @@ use Rattle.whole.specs.Places.{fromPlaces}
 use Rattle.kinds.specs.Answer.{Answer, gives, refused, lent}
 use Rattle.kinds.proofs.Answers.{one-of, first-failed, fails-at}
 use Rattle.kinds.proofs.Demands.{written-where, unwritten-where}
-use Rattle.position.specs.Text.{Coordinate, latitude, longitude, fullStop, places, textLength, hasText, isLetter, isDigit, formed, ms, digitOf, allDigits, fromDigits, degrees, minutes, seconds, thousandths, letter, isAngle, inSixties, angle, signed, noZeroSouth, rightKinds, rightRanges, value, readTests, read, text, writeTests, write}
+use Rattle.position.specs.Text.{Coordinate, latitude, longitude, fullStop, places, textLength, hasText, isLetter, isDigit, formed, ms, digitOf, allDigits, fromDigits, degrees, minutes, seconds, thousandths, letter, isAngle, inSixties, angle, byLetter, noZeroSouth, rightKinds, rightRanges, value, readTests, read, text, writeTests, write}
 use Rattle.position.proofs.Bytes.{by-bytes}
 use Rattle.position.proofs.Trip as trip
 
@@ -72,7 +72,7 @@ pub record TextOf (k : Coordinate) (t : List ℕ) (x : ℤ) : Type 0 where
   pub f-digits : f < 1000
   pub b-letter : isLetter k b ≡ true
   pub not-zero-south : noZeroSouth b (ms d m s f) ≡ true
-  pub value : signed b (ms d m s f) ≡ x
+  pub value : byLetter b (ms d m s f) ≡ x
   pub range : hasText k x ≡ true
 
 -- a text is accepted, as x, exactly when it is the text of x

@@ -16,7 +16,7 @@ use Rattle.kinds.specs.Answer.{gives}
 use Rattle.kinds.proofs.Answers.{passed, same-value}
 use Rattle.kinds.specs.Bytes.{part}
 use Rattle.kinds.proofs.Bytes.{length-part}
-use Rattle.position.specs.Text.{Coordinate, latitude, longitude, letterN, letterS, letterE, fullStop, places, textLength, hasText, isLetter, letterOf, formed, ms, digits, fromDigits, allDigits, degrees, minutes, seconds, point, thousandths, letter, isAngle, inSixties, angle, signed, noZeroSouth, rightKinds, value, rightRanges, read, spelled, text}
+use Rattle.position.specs.Text.{Coordinate, latitude, longitude, letterN, letterS, letterE, fullStop, places, textLength, hasText, isLetter, letterOf, formed, ms, digits, fromDigits, allDigits, degrees, minutes, seconds, stopByte, thousandths, letter, isAngle, inSixties, angle, byLetter, noZeroSouth, rightKinds, value, rightRanges, read, spelled, text}
 use Rattle.position.proofs.Bytes.{by-bytes}
 use Rattle.position.proofs.Digits.{all-digits, number-of, digits-of, number-below}
 
@@ -26,7 +26,7 @@ record Parts (k : Coordinate) (t : List ℕ) (d m s f b : ℕ) : Type 0 where
   of-degrees : degrees k t ≡ digits (places k) d
   of-minutes : minutes k t ≡ digits 2 m
   of-seconds : seconds k t ≡ digits 2 s
-  of-point : point k t ≡ fullStop
+  of-point : stopByte k t ≡ fullStop
   of-thousandths : thousandths k t ≡ digits 3 f
   of-letter : letter k t ≡ b
 
@@ -65,12 +65,12 @@ module _ (k : Coordinate) {d m s f : ℕ} (b : ℕ) (d< : d < 10 ^ places k) (m<
   unfolding angle
   angle-is = simp (m-is, s-is, p .of-degrees, p .of-thousandths, number-of (places k) d d<, number-of 3 f f<)
 
-  pub reads : isLetter k b ≡ true → noZeroSouth b (ms d m s f) ≡ true → hasText k (signed b (ms d m s f)) ≡ true → read k t ≡ gives (signed b (ms d m s f))
+  pub reads : isLetter k b ≡ true → noZeroSouth b (ms d m s f) ≡ true → hasText k (byLetter b (ms d m s f)) ≡ true → read k t ≡ gives (byLetter b (ms d m s f))
   unfolding read
   reads l z r = simp (eq-eqb (length t) (textLength k) (p .long), is-angle, p .of-letter, l, in-sixties, angle-is, z, r)
 
 -- ---- a text that is read has the form
-rejoined : (k : Coordinate) (t : List ℕ) → length t ≡ textLength k → degrees k t ++ minutes k t ++ seconds k t ++ point k t ∷ thousandths k t ++ letter k t ∷ [] ≡ t
+rejoined : (k : Coordinate) (t : List ℕ) → length t ≡ textLength k → degrees k t ++ minutes k t ++ seconds k t ++ stopByte k t ∷ thousandths k t ++ letter k t ∷ [] ≡ t
 rejoined latitude = by-bytes 11 _ (λ f. refl)
 rejoined longitude = by-bytes 12 _ (λ f. refl)
 
@@ -100,14 +100,14 @@ record Digits (k : Coordinate) (t : List ℕ) : Type 0 where
   of-degrees : allDigits (degrees k t) ≡ true
   of-minutes : allDigits (minutes k t) ≡ true
   of-seconds : allDigits (seconds k t) ≡ true
-  of-point : eqb (point k t) fullStop ≡ true
+  of-point : eqb (stopByte k t) fullStop ≡ true
   of-thousandths : allDigits (thousandths k t) ≡ true
 
 are-digits : (k : Coordinate) (t : List ℕ) → isAngle k t ≡ true → Digits k t
 unfolding isAngle
 are-digits k t h =
-    let one = both (allDigits (degrees k t) && allDigits (minutes k t) && allDigits (seconds k t) && eqb (point k t) fullStop) (allDigits (thousandths k t)) h in
-    let two = both (allDigits (degrees k t) && allDigits (minutes k t) && allDigits (seconds k t)) (eqb (point k t) fullStop) (one .0) in
+    let one = both (allDigits (degrees k t) && allDigits (minutes k t) && allDigits (seconds k t) && eqb (stopByte k t) fullStop) (allDigits (thousandths k t)) h in
+    let two = both (allDigits (degrees k t) && allDigits (minutes k t) && allDigits (seconds k t)) (eqb (stopByte k t) fullStop) (one .0) in
     let three = both (allDigits (degrees k t) && allDigits (minutes k t)) (allDigits (seconds k t)) (two .0) in
     let four = both (allDigits (degrees k t)) (allDigits (minutes k t)) (three .0) in
     record { of-degrees = four .0; of-minutes = four .1; of-seconds = three .1; of-point = two .1; of-thousandths = one .1 }
@@ -128,7 +128,7 @@ module _ (k : Coordinate) (t : List ℕ) {x : ℤ} (h : read k t ≡ gives x) wh
   pub has-form : formed k (fromDigits (degrees k t)) (fromDigits (minutes k t)) (fromDigits (seconds k t)) (fromDigits (thousandths k t)) (letter k t) ≡ t
   has-form =
       let l = tests .long in
-      simp (digits-part 0 (places k) t (omega arith) (all .of-degrees), digits-part (places k) 2 t (omega arith) (all .of-minutes), digits-part (places k + 2) 2 t (omega arith) (all .of-seconds), digits-part (places k + 5) 3 t (omega arith) (all .of-thousandths), ← eqb-true (point k t) fullStop (all .of-point))
+      simp (digits-part 0 (places k) t (omega arith) (all .of-degrees), digits-part (places k) 2 t (omega arith) (all .of-minutes), digits-part (places k + 2) 2 t (omega arith) (all .of-seconds), digits-part (places k + 5) 3 t (omega arith) (all .of-thousandths), ← eqb-true (stopByte k t) fullStop (all .of-point))
       (rejoined k t l)
 
   pub degrees-digits : fromDigits (degrees k t) < 10 ^ places k
@@ -175,26 +175,26 @@ ms-formed n = omega arith
 
 -- ---- the letters
 -- a number's letter is one of its kind, and says its sign
-letter-of : (k : Coordinate) (x : ℤ) → hasText k x ≡ true → (isLetter k (letterOf k x) ≡ true) × ((noZeroSouth (letterOf k x) (natAbs x) ≡ true) × (signed (letterOf k x) (natAbs x) ≡ x))
+letter-of : (k : Coordinate) (x : ℤ) → hasText k x ≡ true → (isLetter k (letterOf k x) ≡ true) × ((noZeroSouth (letterOf k x) (natAbs x) ≡ true) × (byLetter (letterOf k x) (natAbs x) ≡ x))
 letter-of latitude (pos n) h = (refl, (refl, refl))
 letter-of latitude (negsuc n) h = (refl, (ap not (ne-eqb (suc n) 0 (λ e. omega arith)), refl))
 letter-of longitude (pos n) h = (refl, (refl, refl))
 letter-of longitude (negsuc n) h = absurd (false≢true h)
 
 -- and a letter after ms is that of the number they make
-letter-back : (k : Coordinate) (b n : ℕ) → isLetter k b ≡ true → noZeroSouth b n ≡ true → (letterOf k (signed b n) ≡ b) × (natAbs (signed b n) ≡ n)
+letter-back : (k : Coordinate) (b n : ℕ) → isLetter k b ≡ true → noZeroSouth b n ≡ true → (letterOf k (byLetter b n) ≡ b) × (natAbs (byLetter b n) ≡ n)
 letter-back latitude b n l z =
     either (eqb b letterN) (eqb b letterS) l
     (λ e. subst Back (sym (eqb-true b letterN e)) (refl, refl))
     (λ e. let s = eqb-true b letterS e in subst Back (sym s) (south n (subst (λ (b : ℕ). noZeroSouth b n ≡ true) s z)))
   where
     Back : ℕ → Type 0
-    Back b = (letterOf latitude (signed b n) ≡ b) × (natAbs (signed b n) ≡ n)
+    Back b = (letterOf latitude (byLetter b n) ≡ b) × (natAbs (byLetter b n) ≡ n)
 
-    south : (n : ℕ) → noZeroSouth letterS n ≡ true → (letterOf latitude (signed letterS n) ≡ letterS) × (natAbs (signed letterS n) ≡ n)
+    south : (n : ℕ) → noZeroSouth letterS n ≡ true → (letterOf latitude (byLetter letterS n) ≡ letterS) × (natAbs (byLetter letterS n) ≡ n)
     south zero z = absurd (false≢true z)
     south (suc n) z = (refl, refl)
-letter-back longitude b n l z = subst (λ (b : ℕ). (letterE ≡ b) × (natAbs (signed b n) ≡ n)) (sym (eqb-true b letterE l)) (refl, refl)
+letter-back longitude b n l z = subst (λ (b : ℕ). (letterE ≡ b) × (natAbs (byLetter b n) ≡ n)) (sym (eqb-true b letterE l)) (refl, refl)
 
 -- the digits of the degrees are enough
 degrees-below : (k : Coordinate) (x : ℤ) → hasText k x ≡ true → natAbs x / 1000 / 60 / 60 < 10 ^ places k

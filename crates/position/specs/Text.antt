@@ -94,8 +94,8 @@ minutes k t = part (places k) 2 t
 abbrev pub seconds : Coordinate → List ℕ → List ℕ
 seconds k t = part (places k + 2) 2 t
 
-abbrev pub point : Coordinate → List ℕ → ℕ
-point k t = getD t (places k + 4) 0
+abbrev pub stopByte : Coordinate → List ℕ → ℕ
+stopByte k t = getD t (places k + 4) 0
 
 abbrev pub thousandths : Coordinate → List ℕ → List ℕ
 thousandths k t = part (places k + 5) 3 t
@@ -108,7 +108,7 @@ letter k t = getD t (places k + 8) 0
 unfoldable pub isAngle : Coordinate → List ℕ → Bool
 isAngle k t =
     allDigits (degrees k t) && allDigits (minutes k t) && allDigits (seconds k t)
-    && eqb (point k t) fullStop && allDigits (thousandths k t)
+    && eqb (stopByte k t) fullStop && allDigits (thousandths k t)
 
 -- minutes and seconds are below 60
 unfoldable pub inSixties : Coordinate → List ℕ → Bool
@@ -119,8 +119,8 @@ unfoldable pub angle : Coordinate → List ℕ → ℕ
 angle k t = ms (fromDigits (degrees k t)) (fromDigits (minutes k t)) (fromDigits (seconds k t)) (fromDigits (thousandths k t))
 
 -- S stands for a number below zero
-abbrev pub signed : ℕ → ℕ → ℤ
-signed b m = cond (eqb b letterS) (negℤ (pos m)) (pos m)
+abbrev pub byLetter : ℕ → ℕ → ℤ
+byLetter b m = cond (eqb b letterS) (negℤ (pos m)) (pos m)
 
 -- and not for zero
 abbrev pub noZeroSouth : ℕ → ℕ → Bool
@@ -132,7 +132,7 @@ rightKinds k t = isAngle k t && isLetter k (letter k t)
 
 -- the number that the text says
 abbrev pub value : Coordinate → List ℕ → ℤ
-value k t = signed (letter k t) (angle k t)
+value k t = byLetter (letter k t) (angle k t)
 
 -- minutes, seconds and the number are in range
 abbrev pub rightRanges : Coordinate → List ℕ → Bool
