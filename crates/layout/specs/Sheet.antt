@@ -95,11 +95,11 @@ countTests bytes =
     ∷ []
 
 -- unlisted code 9
-abbrev pub pointTests : List ℕ → List Test
-pointTests bytes = (every (λ point. isListed (codes bytes) (point .code)) (points bytes) else 9) ∷ []
+abbrev pub listedTests : List ℕ → List Test
+listedTests bytes = (every (λ point. isListed (codes bytes) (point .code)) (points bytes) else 9) ∷ []
 
 abbrev pub tests : ℤ → List ℕ → List Test
-tests unit bytes = serialTests unit bytes ++ countTests bytes ++ pointTests bytes
+tests unit bytes = serialTests unit bytes ++ countTests bytes ++ listedTests bytes
 
 -- what it says
 abbrev pub said : List ℕ → Sheet

@@ -20,7 +20,7 @@ use Rattle.whole.specs.Places.{inPlaces}
 use Rattle.kinds.specs.Answer.{gives, refused, inOrder, placed, counted, lent}
 use Rattle.kinds.proofs.Answers.{failed, own-or-behind, all-held, held, first-or-behind, first-failed, fails, in-two, following-tests}
 use Rattle.numbers.specs.Numbers.{inBytes}
-use Rattle.layout.specs.Sheet.{serial, datums, codes, count, body, point, points, pieces, rise, isListed, serialTests, pointTests, said}
+use Rattle.layout.specs.Sheet.{serial, datums, codes, count, body, point, points, pieces, rise, isListed, serialTests, listedTests, said}
 use Rattle.layout.specs.Layout.{counts, layoutAnswer, laidOut, readOf}
 use Rattle.sheet.specs.Result.{inRecord, answerAt, resultOf, workOf}
 use Rattle.sheet.specs.Inside.{flags, flagOf, allFlagged, pointRecord, records, finished}
@@ -130,7 +130,7 @@ read-told t fits e same = ap (λ (z : ℤ). readOf z t) (sym (of fits .reads)) �
 module _ (unit : ℤ) (t : List ℕ) (room : ℕ) where
   work-front : workOf unit t room ≡ inOrder (front unit t) (finished t room)
   unfolding finished
-  work-front = following-tests (front unit t ++ pointTests t) (gives (said t)) (λ sheet. placed (resultOf sheet) room) ∙ in-two (front unit t) (pointTests t) (placed (resultOf (said t)) room)
+  work-front = following-tests (front unit t ++ listedTests t) (gives (said t)) (λ sheet. placed (resultOf sheet) room) ∙ in-two (front unit t) (listedTests t) (placed (resultOf (said t)) room)
 
   -- read, it is laid out, and the work goes on
   pub laid-out : {layout : Layout} → readOf unit t ≡ gives layout → laidOut t ≡ gives layout

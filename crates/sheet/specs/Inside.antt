@@ -8,7 +8,7 @@ use lib.ListN.{getD}
 use Rattle.whole.specs.Every.{every}
 use Rattle.kinds.specs.Answer.{Answer, inOrder, placed}
 use Rattle.numbers.specs.Numbers.{inBytes, complement}
-use Rattle.layout.specs.Sheet.{point, pieces, pointLength, isListed, pointTests, said}
+use Rattle.layout.specs.Sheet.{point, pieces, pointLength, isListed, listedTests, said}
 use Rattle.sheet.specs.Result.{inRecord, answerAt, resultOf}
 
 -- ---- the points' codes
@@ -43,4 +43,4 @@ records n body = flatMap pointRecord (pieces n pointLength body)
 
 -- after the tests of crate `layout`
 unfoldable pub finished : List ℕ → ℕ → Answer (List ℕ)
-finished bytes room = inOrder (pointTests bytes) (placed (resultOf (said bytes)) room)
+finished bytes room = inOrder (listedTests bytes) (placed (resultOf (said bytes)) room)
