@@ -15,8 +15,8 @@ use Rattle.tables.specs.Rule.{worked}
 use Rattle.datum.specs.Point.{answerOf, pageOf}
 use Rattle.datum.specs.Cases.{pointAnswer}
 use Rattle.datum.specs.declared.PointAnswer.{PointAnswer}
-use Rattle.line.specs.Line.{code, latitudeText, longitudeText, latitudeOf, longitudeOf, lineRanges, readTests, pointTests, answerLine, lineOf}
-use Rattle.line.specs.Inside.{Said, readOf, answeredOf}
+use Rattle.line.specs.Line.{code, latitudeText, longitudeText, latitudeOf, longitudeOf, lineRanges, textTests, placeTests, answerLine, lineOf}
+use Rattle.line.specs.Inside.{Said, pointSaid, answeredOf}
 
 -- ---- a place, whose numbers the code holds as c, n and e
 module _ (said : Said) {c n e : ℤ} (is-c : c ≡ said .code) (is-n : n ≡ said .latitude) (is-e : e ≡ said .longitude) where
@@ -36,7 +36,7 @@ module _ (said : Said) {c n e : ℤ} (is-c : c ≡ said .code) (is-n : n ≡ sai
 
 -- ---- a line
 -- of texts in range, a point's answer is that of the page, 4 and then 6
-pub in-range : (t : List ℕ) → lineRanges t ≡ true → answerOf (code t) (latitudeOf t) (longitudeOf t) ≡ inOrder (pointTests t) (gives (worked (pageOf (code t)) (latitudeOf t) (longitudeOf t)))
+pub in-range : (t : List ℕ) → lineRanges t ≡ true → answerOf (code t) (latitudeOf t) (longitudeOf t) ≡ inOrder (placeTests t) (gives (worked (pageOf (code t)) (latitudeOf t) (longitudeOf t)))
 in-range t h =
     let r = both (rightRanges latitude (latitudeText t)) (rightRanges longitude (longitudeText t)) h in
     let north = both (inSixties latitude (latitudeText t) && noZeroSouth (letter latitude (latitudeText t)) (angle latitude (latitudeText t))) (hasText latitude (latitudeOf t)) (r .0) .1 in
@@ -48,19 +48,19 @@ module _ (t : List ℕ) (room : ℕ) where
   abbrev said-by : Said
   said-by = record { code = code t; latitude = latitudeOf t; longitude = longitudeOf t }
 
-  line-is : lineOf t room ≡ inOrder (readTests t) (following (inOrder (pointTests t) (gives (worked (pageOf (code t)) (latitudeOf t) (longitudeOf t)))) (λ values. placed (answerLine values) room))
+  line-is : lineOf t room ≡ inOrder (textTests t) (following (inOrder (placeTests t) (gives (worked (pageOf (code t)) (latitudeOf t) (longitudeOf t)))) (λ values. placed (answerLine values) room))
   line-is =
-      ap (λ (a : Answer (Family ℤ)). following a (λ values. placed (answerLine values) room)) (in-two (readTests t) (pointTests t) (gives (worked (pageOf (code t)) (latitudeOf t) (longitudeOf t))))
-      ∙ following-tests (readTests t) (inOrder (pointTests t) (gives (worked (pageOf (code t)) (latitudeOf t) (longitudeOf t)))) (λ values. placed (answerLine values) room)
+      ap (λ (a : Answer (Family ℤ)). following a (λ values. placed (answerLine values) room)) (in-two (textTests t) (placeTests t) (gives (worked (pageOf (code t)) (latitudeOf t) (longitudeOf t))))
+      ∙ following-tests (textTests t) (inOrder (placeTests t) (gives (worked (pageOf (code t)) (latitudeOf t) (longitudeOf t)))) (λ values. placed (answerLine values) room)
 
-  pub read-on : {s : Said} → readOf t ≡ gives s → answeredOf s room ≡ lineOf t room
-  unfolding readOf answeredOf
+  pub read-on : {s : Said} → pointSaid t ≡ gives s → answeredOf s room ≡ lineOf t room
+  unfolding pointSaid answeredOf
   read-on {s} h =
-      let all = all-held (readTests t) (gives said-by) h in
+      let all = all-held (textTests t) (gives said-by) h in
       ap (λ (x : Said). following (answerOf (x .code) (x .latitude) (x .longitude)) (λ values. placed (answerLine values) room)) (sym (same-value (all .1)))
       ∙ ap (λ (a : Answer (Family ℤ)). following a (λ values. placed (answerLine values) room)) (in-range t (all .0 .1 .1 .0))
-      ∙ sym (line-is ∙ held (readTests t) _ (all .0))
+      ∙ sym (line-is ∙ held (textTests t) _ (all .0))
 
-  pub not-read : {n : ℕ} → readOf t ≡ refused n → refused n ≡ lineOf t room
-  unfolding readOf
-  not-read {n} h = sym (line-is ∙ fails (readTests t) _ n (first-failed (readTests t) said-by n h))
+  pub not-read : {n : ℕ} → pointSaid t ≡ refused n → refused n ≡ lineOf t room
+  unfolding pointSaid
+  not-read {n} h = sym (line-is ∙ fails (textTests t) _ n (first-failed (textTests t) said-by n h))

@@ -20,7 +20,7 @@ use Rattle.datum.specs.Point.{answerOf, pageOf}
 use Rattle.datum.specs.Exact.{exact, AllWithin, demanded}
 use Rattle.datum.proofs.Demands as datum
 use Rattle.decimal.specs.Decimal.{unpadded, decimal, printedNumber}
-use Rattle.line.specs.Line.{codeByte, code, latitudeOf, longitudeOf, readTests, pointTests, tests, answerTo, answerLine, lineOf}
+use Rattle.line.specs.Line.{codeByte, code, latitudeOf, longitudeOf, textTests, placeTests, tests, answerTo, answerLine, lineOf}
 use Rattle.line.specs.Form.{lineBytes}
 use Rattle.line.proofs.Calls.{in-range}
 use Rattle.line.proofs.Form as form
@@ -28,22 +28,22 @@ use Rattle.line.proofs.Lines as lines
 
 -- ---- 'code digit, space, latitude text, space, longitude text; 26 bytes before the line feed'
 -- a line that was read is answered as the point that it says, by the call that takes both families
-pub answered-as : (line : List ℕ) → AllHold (readTests line) → answerTo line ≡ answerOf (code line) (latitudeOf line) (longitudeOf line)
+pub answered-as : (line : List ℕ) → AllHold (textTests line) → answerTo line ≡ answerOf (code line) (latitudeOf line) (longitudeOf line)
 answered-as line all =
-    in-two (readTests line) (pointTests line) (gives (rule.worked (pageOf (code line)) (latitudeOf line) (longitudeOf line)))
-    ∙ held (readTests line) _ all
+    in-two (textTests line) (placeTests line) (gives (rule.worked (pageOf (code line)) (latitudeOf line) (longitudeOf line)))
+    ∙ held (textTests line) _ all
     ∙ sym (in-range line (all .1 .1 .0))
 
 -- a line that is made of a digit and a position in range is read as them, and so answered
 pub made-reads : (digit : ℕ) (north east : ℤ) → digit < 10 → hasText latitude north ≡ true → hasText longitude east ≡ true
-    → AllHold (readTests (lineBytes digit north east)) × (answerTo (lineBytes digit north east) ≡ answerOf (pos digit) north east)
+    → AllHold (textTests (lineBytes digit north east)) × (answerTo (lineBytes digit north east) ≡ answerOf (pos digit) north east)
 made-reads digit north east d n e =
     let says = form.made-says digit north east d n e in
     let all = form.made-holds digit north east d n e in
     (all, answered-as (lineBytes digit north east) all ∙ (λ i. answerOf (says .0 i) (says .1 .0 i) (says .1 .1 i)))
 
 -- and a line that is read was so made: no other bytes are
-pub reads-made : (line : List ℕ) → AllHold (readTests line)
+pub reads-made : (line : List ℕ) → AllHold (textTests line)
     → (digitOf (codeByte line) < 10) × ((hasText latitude (latitudeOf line) ≡ true) × ((hasText longitude (longitudeOf line) ≡ true) × (line ≡ lineBytes (digitOf (codeByte line)) (latitudeOf line) (longitudeOf line))))
 reads-made line all = form.read-made line all
 

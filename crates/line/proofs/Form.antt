@@ -16,7 +16,7 @@ use Rattle.kinds.proofs.Bytes.{length-part}
 use Rattle.position.specs.Text.{Coordinate, latitude, longitude, textLength, hasText, isDigit, digitOf, byteOf, rightKinds, rightRanges, value, read, text}
 use Rattle.position.proofs.Reading.{right-length}
 use Rattle.position.proofs.Demands as position
-use Rattle.line.specs.Line.{space, codeByte, latitudeText, longitudeText, code, latitudeOf, longitudeOf, readTests}
+use Rattle.line.specs.Line.{space, codeByte, latitudeText, longitudeText, code, latitudeOf, longitudeOf, textTests}
 use Rattle.line.specs.Form.{lineBytes}
 
 -- ---- a coordinate that is read keeps its tests
@@ -77,7 +77,7 @@ module _ (digit : ℕ) (north east : ℤ) where
     unfolding lineBytes
     first-kept = refl
 
-    pub made-holds : AllHold (readTests made)
+    pub made-holds : AllHold (textTests made)
     made-holds = (
       eq-eqb (length made) 26 made-long,
       (
@@ -93,7 +93,7 @@ module _ (digit : ℕ) (north east : ℤ) where
     made-says = (digit-read, (north-kept .1 .1, east-kept .1 .1))
 
 -- ---- read, and made
-module _ (t : List ℕ) (all : AllHold (readTests t)) where
+module _ (t : List ℕ) (all : AllHold (textTests t)) where
   long : length t ≡ 26
   long = eqb-true (length t) 26 (all .0)
 

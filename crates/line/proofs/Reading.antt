@@ -18,7 +18,7 @@ use Rattle.kinds.proofs.Bytes.{length-part}
 use Rattle.position.specs.Text.{latitude, longitude, isDigit, digitOf, rightKinds, rightRanges, value, read}
 use Rattle.position.proofs.Reading.{right-length}
 use Rattle.line.specs.Line.{space, codeByte, latitudeText, longitudeText, code}
-use Rattle.line.specs.Inside.{Said, readOf, withLongitude, firstRefusal}
+use Rattle.line.specs.Inside.{Said, pointSaid, withLongitude, firstRefusal}
 
 -- ---- a coordinate by its tests: of its kinds and of its ranges
 abbrev tested : Bool → Bool → ℤ → Answer ℤ
@@ -69,13 +69,13 @@ module _ (t : List ℕ) where
   abbrev between : Bool
   between = isDigit (codeByte t) && eqb (getD t 1 0) space && eqb (getD t 13 0) space
 
-  pub wrong-length : (length t ≡ 26 → ⊥) → refused 1 ≡ readOf t
-  unfolding readOf
+  pub wrong-length : (length t ≡ 26 → ⊥) → refused 1 ≡ pointSaid t
+  unfolding pointSaid
   wrong-length h = simp (ne-eqb (length t) 26 h)
 
   module _ (long : length t ≡ 26) where
-    pub wrong-kind : not between ≡ true → refused 2 ≡ readOf t
-    unfolding readOf
+    pub wrong-kind : not between ≡ true → refused 2 ≡ pointSaid t
+    unfolding pointSaid
     wrong-kind h = simp (eq-eqb (length t) 26 long, wrong-first (isDigit (codeByte t)) (eqb (getD t 1 0) space) (rightKinds latitude (latitudeText t)) (eqb (getD t 13 0) space) (rightKinds longitude (longitudeText t)) (not-true between h))
 
     latitude-is : read latitude (latitudeText t) ≡ tested (rightKinds latitude (latitudeText t)) (rightRanges latitude (latitudeText t)) (value latitude (latitudeText t))
@@ -103,19 +103,19 @@ module _ (t : List ℕ) where
       pub code-fits : SFits w64 (pos (getD t 0 0 - 48))
       code-fits = code-held .holds
 
-      together-is : together (code t) (value latitude (latitudeText t)) (value longitude (longitudeText t)) (rightKinds latitude (latitudeText t)) (rightRanges latitude (latitudeText t)) (rightKinds longitude (longitudeText t)) (rightRanges longitude (longitudeText t)) ≡ readOf t
-      unfolding readOf
+      together-is : together (code t) (value latitude (latitudeText t)) (value longitude (longitudeText t)) (rightKinds latitude (latitudeText t)) (rightRanges latitude (latitudeText t)) (rightKinds longitude (longitudeText t)) (rightRanges longitude (longitudeText t)) ≡ pointSaid t
+      unfolding pointSaid
       together-is = simp (eq-eqb (length t) 26 long, digit-and-spaces .0, digit-and-spaces .1 .0, digit-and-spaces .1 .1, and-true)
 
       -- east is what reading the longitude answers
-      pub latitude-read : {x : ℤ} {east : Answer ℤ} → read latitude (latitudeText t) ≡ gives x → east ≡ read longitude (longitudeText t) → withLongitude (toZ w64 (getD t 0 0 - 48)) x east ≡ readOf t
+      pub latitude-read : {x : ℤ} {east : Answer ℤ} → read latitude (latitudeText t) ≡ gives x → east ≡ read longitude (longitudeText t) → withLongitude (toZ w64 (getD t 0 0 - 48)) x east ≡ pointSaid t
       unfolding digitOf
       latitude-read {x} h e =
           (λ i. withLongitude (code-held .reads i) x ((e ∙ longitude-is) i))
           ∙ read-together (code t) (value latitude (latitudeText t)) (value longitude (longitudeText t)) (rightKinds latitude (latitudeText t)) (rightRanges latitude (latitudeText t)) (rightKinds longitude (longitudeText t)) (rightRanges longitude (longitudeText t)) (sym latitude-is ∙ h)
           ∙ together-is
 
-      pub latitude-refused : {n : ℕ} {east : Answer ℤ} → read latitude (latitudeText t) ≡ refused n → east ≡ read longitude (longitudeText t) → refused (firstRefusal n east) ≡ readOf t
+      pub latitude-refused : {n : ℕ} {east : Answer ℤ} → read latitude (latitudeText t) ≡ refused n → east ≡ read longitude (longitudeText t) → refused (firstRefusal n east) ≡ pointSaid t
       latitude-refused {n} h e =
           ap (λ (a : Answer ℤ). refused (firstRefusal n a)) (e ∙ longitude-is)
           ∙ refused-together (code t) (value latitude (latitudeText t)) (value longitude (longitudeText t)) (rightKinds latitude (latitudeText t)) (rightRanges latitude (latitudeText t)) (rightKinds longitude (longitudeText t)) (rightRanges longitude (longitudeText t)) (sym latitude-is ∙ h)

@@ -6,7 +6,7 @@ use lib.Dec.{ltb}
 use lib.IntN.{ℤ}
 use Rattle.kinds.specs.Answer.{Answer, gives, refused, numberOf, inOrder, placed, following}
 use Rattle.datum.specs.Point.{answerOf}
-use Rattle.line.specs.Line.{code, latitudeOf, longitudeOf, readTests, answerLine}
+use Rattle.line.specs.Line.{code, latitudeOf, longitudeOf, textTests, answerLine}
 use Rattle.line.specs.declared.Place.{Place}
 use Rattle.line.specs.declared.PlaceAnswer.{PlaceAnswer}
 use Rattle.line.specs.declared.PlaceAnswer.the-variants as Read
@@ -25,8 +25,8 @@ abbrev pub placeAnswer : PlaceAnswer → Answer Said
 placeAnswer (Read.Gives place) = gives (placeSays place)
 placeAnswer (Read.Refused why) = refused (numberOf why)
 
-unfoldable pub readOf : List ℕ → Answer Said
-readOf line = inOrder (readTests line) (gives (record { code = code line; latitude = latitudeOf line; longitude = longitudeOf line }))
+unfoldable pub pointSaid : List ℕ → Answer Said
+pointSaid line = inOrder (textTests line) (gives (record { code = code line; latitude = latitudeOf line; longitude = longitudeOf line }))
 
 -- of a latitude that was read, and a longitude's answer
 abbrev pub withLongitude : ℤ → ℤ → Answer ℤ → Answer Said

@@ -57,21 +57,21 @@ abbrev pub lineRanges : List ℕ → Bool
 lineRanges line = rightRanges latitude (latitudeText line) && rightRanges longitude (longitudeText line)
 
 -- 'Per line: 1, then 2 over the whole line, then 3, 4, 6'
-abbrev pub readTests : List ℕ → List Test
-readTests line =
+abbrev pub textTests : List ℕ → List Test
+textTests line =
     (eqb (length line) lineLength else 1)
     ∷ (lineKinds line else 2)
     ∷ (lineRanges line else 3)
     ∷ []
 
-abbrev pub pointTests : List ℕ → List Test
-pointTests line =
+abbrev pub placeTests : List ℕ → List Test
+placeTests line =
     (isCode (code line) else 4)
     ∷ (inArea (pageOf (code line)) (latitudeOf line) (longitudeOf line) else 6)
     ∷ []
 
 abbrev pub tests : List ℕ → List Test
-tests line = readTests line ++ pointTests line
+tests line = textTests line ++ placeTests line
 
 -- the shift or the geoid height of its point
 abbrev pub answerTo : List ℕ → Answer (Family ℤ)

@@ -18,7 +18,7 @@ ghost use Rattle.kinds.specs.Answer.{numberOf, placed, counted, lent};
 ghost use Rattle.kinds.specs.Cases.{localLongitude, written};
 ghost use Rattle.datum.specs.Cases.{shiftSays, geoidSays};
 ghost use Rattle.line.specs.Line.{answerLine, lineOf};
-ghost use Rattle.line.specs.Inside.{placeSays, placeAnswer, readOf, withLongitude, firstRefusal, answeredOf};
+ghost use Rattle.line.specs.Inside.{placeSays, placeAnswer, pointSaid, withLongitude, firstRefusal, answeredOf};
 
 // Answers the line whose bytes before the line feed are text: `1 350000.000N 0330000.000E` gives `-384288 -110294 24430` and a
 // line feed, at the start of out, and how many bytes these are. Refused, in this order: 1 another length than 26, 2 a byte that
@@ -53,7 +53,7 @@ enum PlaceAnswer {
 
 // Reads a line, whatever its code and its place.
 fn read(text: &[u8]) -> PlaceAnswer
-    ensures { λ r. ⌜ placeAnswer r ≡ readOf (now (text .entry)) ⌝ }
+    ensures { λ r. ⌜ placeAnswer r ≡ pointSaid (now (text .entry)) ⌝ }
 {
     if text.len() != LINE {
         return PlaceAnswer::Refused(Refusal::Length);
