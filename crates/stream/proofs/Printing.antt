@@ -17,13 +17,13 @@ use Rattle.position.specs.Text.{byteOf}
 use Rattle.tables.specs.Page.{Family}
 use Rattle.line.specs.Line.{lineFeed, answerLine, tests, answerTo, lineOf, unbroken}
 use Rattle.line.proofs.Printing.{answer-line-short, answer-line-ends}
-use Rattle.stream.specs.Stream.{refusedLine, said, printed, ended, begunAfter, held, kept, answers}
+use Rattle.stream.specs.Stream.{refusedLine, lineOut, printed, ended, begunAfter, held, kept, answers}
 use Rattle.stream.specs.declared.Begun.{Begun}
 use Rattle.stream.proofs.Keeping.{take-again, held-kept, kept-cut}
 use Rattle.stream.proofs.Lines.{ended-pieces, none-ends, line-ends}
 
 -- ---- a line
-said-short : (a : Answer (Family ℤ)) → length (said a) ≤ 36
+said-short : (a : Answer (Family ℤ)) → length (lineOut a) ≤ 36
 unfolding refusedLine
 said-short (gives values) = answer-line-short values
 said-short (refused n) = omega arith
@@ -33,7 +33,7 @@ unfolding printed
 printed-short line = said-short (answerTo line)
 
 -- a line feed ends it, and no other is in it
-said-ends : (a : Answer (Family ℤ)) → (text : List ℕ) × ((said a ≡ text ++ lineFeed ∷ []) × (unbroken text ≡ true))
+said-ends : (a : Answer (Family ℤ)) → (text : List ℕ) × ((lineOut a ≡ text ++ lineFeed ∷ []) × (unbroken text ≡ true))
 unfolding refusedLine
 said-ends (gives values) = answer-line-ends values
 said-ends (refused n) = (114 ∷ 101 ∷ 102 ∷ 117 ∷ 115 ∷ 101 ∷ 100 ∷ 32 ∷ byteOf n ∷ [], (refl, simp (ne-eqb (byteOf n) lineFeed (λ e. omega arith))))
@@ -144,15 +144,15 @@ begun-kept line bytes =
 abbrev answerFor : Answer (Family ℤ) → ℕ → Answer (List ℕ)
 answerFor a room = following a (λ values. placed (answerLine values) room)
 
-gives-said : (a : Answer (Family ℤ)) (out : List ℕ) (count : ℕ) → length (said a) ≤ length out → gives count ≡ counted (answerFor a (length out))
-    → (count ≡ length (said a)) × (lent (answerFor a (length out)) out ≡ said a ++ drop count out)
+gives-said : (a : Answer (Family ℤ)) (out : List ℕ) (count : ℕ) → length (lineOut a) ≤ length out → gives count ≡ counted (answerFor a (length out))
+    → (count ≡ length (lineOut a)) × (lent (answerFor a (length out)) out ≡ lineOut a ++ drop count out)
 gives-said (gives values) out count room h =
     let t = le-leb (length (answerLine values)) (length out) room in
     let e : count ≡ length (answerLine values) = same-value (simp t at h) in
     (e, simp t (ap (λ (n : ℕ). answerLine values ++ drop n out) (sym e)))
 gives-said (refused n) out count room h = absurd (not-both h)
 
-refused-said : (a : Answer (Family ℤ)) (out : List ℕ) (n : ℕ) → length (said a) ≤ length out → refused n ≡ counted (answerFor a (length out))
+refused-said : (a : Answer (Family ℤ)) (out : List ℕ) (n : ℕ) → length (lineOut a) ≤ length out → refused n ≡ counted (answerFor a (length out))
     → (a ≡ refused n) × (lent (answerFor a (length out)) out ≡ out)
 refused-said (gives values) out n room h =
     let t = le-leb (length (answerLine values)) (length out) room in
@@ -161,13 +161,13 @@ refused-said (refused m) out n room h = (cc, refl)
 
 -- what it gives, where there is room for the longest answer, is what is printed
 module _ (room : ℕ) (enough : 36 ≤ room) where
-  as-given : (a : Answer (Family ℤ)) {text : List ℕ} → answerFor a room ≡ gives text → said a ≡ text
+  as-given : (a : Answer (Family ℤ)) {text : List ℕ} → answerFor a room ≡ gives text → lineOut a ≡ text
   as-given (gives values) h =
       let t = le-leb (length (answerLine values)) room (omega (arith, answer-line-short values, enough)) in
       same-value (simp t at h)
   as-given (refused n) h = absurd (not-both (sym h))
 
-  as-refused : (a : Answer (Family ℤ)) {n : ℕ} → answerFor a room ≡ refused n → said a ≡ refusedLine n
+  as-refused : (a : Answer (Family ℤ)) {n : ℕ} → answerFor a room ≡ refused n → lineOut a ≡ refusedLine n
   as-refused (gives values) h =
       let t = le-leb (length (answerLine values)) room (omega (arith, answer-line-short values, enough)) in
       absurd (not-both (simp t at h))
@@ -197,7 +197,7 @@ module _ (line out : List ℕ) (room : length (printed line) ≤ length out) whe
     module _ (text same : List ℕ) (is-text : text ≡ refusedLine number) (is-same : same ≡ lent (lineOf line (length out)) out) where
       text-is : text ≡ printed line
       unfolding printed
-      text-is = is-text ∙ ap refusedLine is-number ∙ ap said (sym (refused-said (answerTo line) out n room h .0))
+      text-is = is-text ∙ ap refusedLine is-number ∙ ap lineOut (sym (refused-said (answerTo line) out n room h .0))
 
       same-is : same ≡ out
       unfolding printed

@@ -18,12 +18,12 @@ unfoldable pub refusedLine : ℕ → List ℕ
 refusedLine number = 114 ∷ 101 ∷ 102 ∷ 117 ∷ 115 ∷ 101 ∷ 100 ∷ space ∷ byteOf number ∷ lineFeed ∷ []
 
 -- 'dLat, dLon and dH .., or N alone, or `refused` and the number'
-abbrev pub said : Answer (Family ℤ) → List ℕ
-said (gives values) = answerLine values
-said (refused number) = refusedLine number
+abbrev pub lineOut : Answer (Family ℤ) → List ℕ
+lineOut (gives values) = answerLine values
+lineOut (refused number) = refusedLine number
 
 unfoldable pub printed : List ℕ → List ℕ
-printed line = said (answerTo line)
+printed line = lineOut (answerTo line)
 
 -- ---- lines in
 -- lines, each with its line feed
