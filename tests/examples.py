@@ -40,8 +40,8 @@ RUNS = {
         ('', '', 'sheet UNIT LATITUDE LONGITUDE, as: sheet 7 350000.000N 0330000.000E\n', 2),
     ],
 }
-# the compiler, and its words
-LANGUAGES = {'C99': ('gcc', ['-std=c99', '-pedantic']), 'C++': ('g++', ['-std=c++11', '-pedantic', '-xc++'])}
+# the words of the compiler; g++ itself would link a library that Debian's x86-64 files for other machines lack
+LANGUAGES = {'C99': ['-std=c99', '-pedantic'], 'C++': ['-std=c++11', '-pedantic', '-fno-exceptions', '-xc++']}
 
 
 def promised(name):
@@ -56,9 +56,8 @@ def built(name, language, room):
     """The command that runs it, built in a folder that has nothing but what it needs."""
     for path in (f'examples/{name}.c', program.archive(), 'include/buckettin.h'):
         shutil.copy(path, room)
-    compiler, words = LANGUAGES[language]
     sources = [f'{room}/{name}.c', '-xnone', f'{room}/{os.path.basename(program.archive())}']
-    return program.compiled(sources, room, compiler=compiler, words=words)
+    return program.compiled(sources, room, words=LANGUAGES[language])
 
 
 def ran(name, language):

@@ -26,7 +26,7 @@ NUMBERS = [
     49_999_999, 50_000_000, -49_999_999, -50_000_000,
     2 ** 63 - 1, -2 ** 63,
 ]
-DIVISORS = [1, 2, 3, 10, 3_600_000, SCALE, 2 ** 62, 2 ** 63 - 1]
+DIVISORS = [2, 3, 10, 3_600_000, SCALE, 2 ** 62 - 1, 2 ** 62]
 
 # The powers: document 01's small u, and the largest |v| of any area (code 6), on whose way products pass an i64.
 POWERS = [22, 39_269_908, -39_269_908, 251_327_412, -251_327_412]
@@ -299,9 +299,17 @@ def kinds():
     return cases + [shifted(*p) for p in SHIFTED] + [put(text, room) for text in PUT for room in ROOMS]
 
 
+def west():
+    """Longitudes around the ends of an area from 42° to 58° N and from 5° W to 15° E, on its south end, and two outside it."""
+    raw = [(42 * DEGREE, east * DEGREE + by) for east in (355, 0, 15) for by in (-1, 0, 1)]
+    raw += [(42 * DEGREE, 360 * DEGREE - 1), (42 * DEGREE - 1, 0), (58 * DEGREE + 1, 355 * DEGREE), (58 * DEGREE, 180 * DEGREE)]
+    held = [int(42 * DEGREE <= y <= 58 * DEGREE and (355 * DEGREE <= x or x <= 15 * DEGREE)) for y, x in raw if 0 <= x]
+    return 'west of Greenwich', b''.join(b'w' + number(y) + number(x) for y, x in raw), spaced(held)
+
+
 def figures():
     powers = [(f'{u}', b'p' + number(u), spaced(tens(u)[2:])) for u in POWERS]
-    return [('whole', b'', '')] + [quotients(n) for n in NUMBERS] + powers + kinds()
+    return [('whole', b'', '')] + [quotients(n) for n in NUMBERS] + powers + kinds() + [west()]
 
 
 def files():

@@ -22,6 +22,7 @@ use Rattle.equation.specs.Exact.{whole, _times_, _to-the_, exactOf, Within, Bey
 use Rattle.tables.specs.Page.{Page, Equation, Family, shift, geoid, isShift, isGeoid, isEither, each, Each, OfShift, OfGeoid}
 use Rattle.tables.specs.Rule.{inBox, inArea, worked}
 use Rattle.tables.proofs.Limits.{row-keeps}
+use Rattle.tables.proofs.Bounds.{row-bounded}
 use Rattle.datum.specs.Point.{isCode, row, pageOf, pointOf, tests, asked, answerOf, shiftOf, geoidOf, valuesOf}
 use Rattle.datum.specs.Exact.{exact, atCentre, AllWithin, demanded, boundsOf}
 use Rattle.datum.specs.Cases.{shiftSays, geoidSays, shiftAnswer, geoidAnswer, pointAnswer}
@@ -32,7 +33,7 @@ use Rattle.datum.specs.declared.PointAnswer.{PointAnswer}
 use Rattle.datum.specs.declared.PointAnswer.the-variants as Point
 use Rattle.datum.proofs.Codes.{not-shift, not-geoid}
 use Rattle.datum.proofs.Points.{fit}
-use Rattle.datum.proofs.Errors.{point-near, row-bounded, no-narrower, all-widened, same-demand, row-demanded, over-power, row-over, centres-apart, no-one-answer}
+use Rattle.datum.proofs.Errors.{point-near, no-narrower, all-widened, same-demand, row-demanded, over-power, row-over, centres-apart, no-one-answer}
 
 -- ---- 'Order for a point: 4, 5, 3, 6': when each number is given, whichever family is asked of
 module _ (family : Family Equation → Bool) (code latitude longitude : ℤ) where

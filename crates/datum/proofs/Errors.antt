@@ -1,4 +1,4 @@
--- How near a point's values are to the exact ones: the test of a page, and what it shows of every point of the box. The
+-- How near a point's values are to the exact ones: what the test of a page's bounds shows of every point of the box. The
 -- theorem itself is `answer-near` of `equation`. Assumes nothing.
 use mathlib.Core.Path.{_≡_, refl, sym, ap, _∙_, subst}
 use mathlib.Core.Bool.{Bool, true, false, not, _&&_, _||_}
@@ -9,7 +9,6 @@ use native.Mathlib.Omega.{arith}
 use lib.Dec.{T, eqb, eqb→eq, leb, leb→le, ltb, ltb→lt, lit<, lit≤}
 use lib.IntN.{ℤ, pos, natAbs, _-ℤ_, _*ℤ_}
 use lib.ListN.{getD, drop}
-use borrow.Author.Tests.{leb-true, leb-false}
 use mir.Facts.{and-yes}
 use Rattle.whole.specs.Round.{roundDiv, scale}
 use Rattle.whole.specs.Every.{every}
@@ -18,56 +17,17 @@ use Rattle.whole.proofs.Every.{every-place}
 use Rattle.equation.specs.Equation.{Term, equationOf}
 use Rattle.equation.specs.Exact.{Fraction, _over_, whole, _times_, _to-the_, exactOf, Within}
 use Rattle.equation.proofs.Fractions.{within-same, within-wider, within-both, same-scaled, exact-proper, reaches, common, over-common}
-use Rattle.equation.proofs.Errors.{bounded, bounded-wider, answer-near}
+use Rattle.equation.proofs.Errors.{answer-near}
 use Rattle.tables.specs.Page.{Page, Equation, Family, shift, geoid, ofEach, each, Each}
 use Rattle.tables.specs.Cyprus.{cyprus}
 use Rattle.tables.specs.Tables.{pages}
 use Rattle.tables.specs.Rule.{longitudeOn, inBox, powersU, powersV, worked}
 use Rattle.tables.proofs.Families.{each-by, each-of, paired, shift-so, geoid-so}
 use Rattle.tables.proofs.Limits.{page-keeps, most-u, most-v, u-size, v-size}
+use Rattle.tables.proofs.Bounds.{fine, within-h, equation-bounded, page-bounded}
 use Rattle.datum.specs.Point.{isCode, pageOf}
 use Rattle.datum.specs.Exact.{exactAlong, exactAt, exact, atCentre, AllNear, AllWithin, demanded}
 use Rattle.datum.proofs.Codes.{numbered, of-each, each-code}
-
--- ---- the test of a page: each equation with its bound, in thousandths of a unit, and with no smaller one
--- errors on the way are counted in millionths
-abbrev fine : ℕ
-fine = 1000000
-
-abbrev within-h : Page → ℕ → Equation → Bool
-within-h page h e = bounded scale fine (page .u .divisor) (page .v .divisor) (e .divisor) (most-u page) (most-v page) h 1000 (e .terms)
-
-abbrev equation-bounded : Page → Equation → Bool
-equation-bounded page e = within-h page (e .bound) e && not (within-h page (e .bound - 1) e)
-
-abbrev page-bounded : Page → Bool
-page-bounded page = each (equation-bounded page) (page .equations)
-
-all-bounded : T (every page-bounded pages)
-unfolding roundDiv
-all-bounded = tt
-
-pub row-bounded : (n : ℕ) → T (page-bounded (getD pages n cyprus))
-row-bounded = every-place page-bounded cyprus (drop 1 pages) all-bounded
-
--- with no smaller bound than the page's does the test hold
-pub smallest : (page : Page) → T (page-bounded page) → Each (λ e. (h : ℕ) → T (within-h page h e) → e .bound ≤ h) (page .equations)
-smallest page = each-by (equation-bounded page) at-least (page .equations)
-  where
-    neither : (b : Bool) → T (not b) → T b → ⊥
-    neither true p q = p
-    neither false p q = q
-
-    at-least : (e : Equation) → T (equation-bounded page e) → (h : ℕ) → T (within-h page h e) → e .bound ≤ h
-    at-least e t h passes = go (leb (e .bound) h) refl
-      where
-        go : (b : Bool) → leb (e .bound) h ≡ b → e .bound ≤ h
-        go true k = leb-true (e .bound) h k
-        go false k =
-            let less : h ≤ e .bound - 1 = omega (arith, leb-false (e .bound) h k) in
-            absurd
-            (neither (within-h page (e .bound - 1) e) (and-yes (within-h page (e .bound) e) (not (within-h page (e .bound - 1) e)) t .1)
-            (bounded-wider scale fine (page .u .divisor) (page .v .divisor) (e .divisor) (most-u page) (most-v page) 1000 (e .terms) less passes))
 
 -- ---- what holds of each equation's bound, exact value and answer
 pub all-of : {A B : Type 0} (near : ℕ → Fraction → B → Type 0) (f : A → ℕ) (g : A → Fraction) (k : A → B) (family : Family A) → Each (λ a. near (f a) (g a) (k a)) family → AllNear near (ofEach f family) (ofEach g family) (ofEach k family)
@@ -139,8 +99,8 @@ by-number ts a b hm hk hd t =
     let f = exactOf ts (a over 360000000000000) (b over 360000000000000) in (
       common 360000000000000 18 a b ts,
       rw (hm, hk, hd)
-      (within-same (f times (pos scale over scale) times whole (pos (360000000000000 ^ 18))) (f times whole (pos (360000000000000 ^ 18))) (same-scaled f scale (360000000000000 ^ 18))
-      (mul-pos (mul-pos (exact-proper (a over 360000000000000) (b over 360000000000000) (lit< tt) (lit< tt) ts) (lit< tt)) (lit< tt)) (over-common 360000000000000 18 a b ts (lit< tt) t)),
+          (within-same (f times (pos scale over scale) times whole (pos (360000000000000 ^ 18))) (f times whole (pos (360000000000000 ^ 18))) (same-scaled f scale (360000000000000 ^ 18))
+          (mul-pos (mul-pos (exact-proper (a over 360000000000000) (b over 360000000000000) (lit< tt) (lit< tt) ts) (lit< tt)) (lit< tt)) (over-common 360000000000000 18 a b ts (lit< tt) t)),
     )
 
 pub over-power : (page : Page) → T (page-over page) → (latitude longitude : ℤ) → Each (Over (360000000000000 ^ 18)) (exact page latitude longitude)

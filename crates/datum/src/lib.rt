@@ -148,8 +148,9 @@ fn point(datum: Datum, latitude: i64, longitude: i64) -> ValuesAnswer
     };
     let frame = datum.frame();
     if frame.holds(position) {
-        let pu = powers(frame.u_of(position));
-        let pv = powers(frame.v_of(position));
+        let place = frame.place(position);
+        let pu = powers(place.u);
+        let pv = powers(place.v);
         ValuesAnswer::Gives(datum.values(pu, pv))
     } else {
         ValuesAnswer::Refused(Refusal::Area)

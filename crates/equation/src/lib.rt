@@ -46,7 +46,7 @@ pub fn sum(coefficients: &[i64], us: &[u8], vs: &[u8], pu: [i64; 10], pv: [i64; 
     while k < coefficients.len() {
         let i = us[k] as usize;
         let j = vs[k] as usize;
-        total = total + coefficients[k] * whole::rounded(pu[i] * pv[j]);
+        total = total + coefficients[k] * whole::rounded(pu[i] * pv[j], Parts::DIVISOR);
         k += 1;
     }
     total

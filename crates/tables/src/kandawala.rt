@@ -3,6 +3,7 @@ use super::Axis;
 use super::Frame;
 use super::Values;
 use kinds::LocalLatitude;
+use whole::Parts;
 ghost use mathlib.Core.Path.{_≡_};
 ghost use Rattle.tables.specs.Rule.{evaluated};
 ghost use Rattle.tables.specs.Inside.{Say, AllFit};
@@ -50,7 +51,7 @@ pub(crate) fn values(pu: [i64; 10], pv: [i64; 10]) -> Values
     ensures { λ r. ⌜ Say r (evaluated (kandawala .equations) pu pv) ⌝ }
 {
     Values {
-        first: super::value(&HEIGHT, &HEIGHT_U, &HEIGHT_V, pu, pv),
+        first: super::value(Parts::DIVISOR, &HEIGHT, &HEIGHT_U, &HEIGHT_V, pu, pv),
         second: 0,
         third: 0,
     }

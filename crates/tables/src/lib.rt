@@ -13,14 +13,13 @@ use kinds::within;
 use whole::Parts;
 ghost use mathlib.Core.Path.{_≡_};
 ghost use mathlib.Core.Bool.{_&&_};
-ghost use Prim.Native.Nat.{_≤_, _<_};
+ghost use Prim.Native.Nat.{_≤_};
 ghost use lib.IntN.{natAbs};
 ghost use lib.ListN.{length};
-ghost use Rattle.whole.specs.Round.{scale};
 ghost use Rattle.kinds.specs.Kinds.{within};
 ghost use Rattle.equation.specs.Equation.{terms, equationOf};
 ghost use Rattle.tables.specs.Rule.{evaluated};
-ghost use Rattle.tables.specs.Inside.{rowOf, datumPage, frameOf, countedFrom, onAxis, Say, Fits, AllFit, Close};
+ghost use Rattle.tables.specs.Inside.{datumPage, frameOf, countedFrom, onAxis, Say, Fits, AllFit, Close};
 
 pub enum Datum {
     Cyprus,
@@ -31,35 +30,18 @@ pub enum Datum {
     Nahrwan,
 }
 
-// In the order of the datums.
-const FRAMES: [Frame; 6] = [
-    cyprus::FRAME,
-    minna::FRAME,
-    alaska::FRAME,
-    qatar::FRAME,
-    kandawala::FRAME,
-    nahrwan::FRAME,
-];
-
 impl Datum {
-    fn row(self) -> usize
-        ensures { λ r. ⌜ (r ≡ rowOf self) × (r < 6) ⌝ }
-    {
-        match self {
-            Datum::Cyprus => 0,
-            Datum::Minna => 1,
-            Datum::Alaska => 2,
-            Datum::Qatar => 3,
-            Datum::Kandawala => 4,
-            Datum::Nahrwan => 5,
-        }
-    }
-
     pub fn frame(self) -> Frame
         ensures { λ r. ⌜ r ≡ frameOf (datumPage self) ⌝ }
     {
-        let row = self.row();
-        FRAMES[row]
+        match self {
+            Datum::Cyprus => cyprus::FRAME,
+            Datum::Minna => minna::FRAME,
+            Datum::Alaska => alaska::FRAME,
+            Datum::Qatar => qatar::FRAME,
+            Datum::Kandawala => kandawala::FRAME,
+            Datum::Nahrwan => nahrwan::FRAME,
+        }
     }
 
     // What the equations give, by the powers of u and of v.
@@ -103,25 +85,22 @@ impl Frame {
     {
         let latitude = position.latitude;
         let longitude = self.longitude(position);
-        within(self.south, self.north, latitude.ms() as i64) & within(self.west, self.east, longitude)
+        within(self.south, self.north, latitude.ms() as i64)
+            & within(self.west, self.east, longitude)
     }
 
-    pub fn u_of(self, position: LocalPosition) -> Parts
-        requires { ⌜ Close (self .u) ⌝ }
-        ensures { λ r. ⌜ r .0 ≡ onAxis (self .u) (position .latitude .0) ⌝ }
+    // u of the latitude, and v of the longitude.
+    pub fn place(self, position: LocalPosition) -> Place
+        requires { ⌜ Close (self .u) × Close (self .v) ⌝ }
+        ensures { λ r. ⌜ (r .u .0 ≡ onAxis (self .u) (position .latitude .0)) × (r .v .0 ≡ onAxis (self .v) (countedFrom (self .west) (position .longitude .0))) ⌝ }
     {
-        let latitude = position.latitude;
-        let axis = self.u;
-        axis.along(latitude.ms() as i64)
-    }
-
-    pub fn v_of(self, position: LocalPosition) -> Parts
-        requires { ⌜ Close (self .v) ⌝ }
-        ensures { λ r. ⌜ r .0 ≡ onAxis (self .v) (countedFrom (self .west) (position .longitude .0)) ⌝ }
-    {
-        let longitude = self.longitude(position);
-        let axis = self.v;
-        axis.along(longitude)
+        let north = position.latitude;
+        let u = self.u;
+        let v = self.v;
+        Place {
+            u: u.along(north.ms() as i64),
+            v: v.along(self.longitude(position)),
+        }
     }
 
     // The longitude as the page counts it: less a turn, where it is not west of the west end even then.
@@ -135,6 +114,12 @@ impl Frame {
     }
 }
 
+// Where a position stands on the page of a datum.
+pub struct Place {
+    pub u: Parts,
+    pub v: Parts,
+}
+
 // How u or v comes of ms: the factor times them, less the offset, over the ms of a degree.
 pub struct Axis {
     pub factor: i64,
@@ -146,15 +131,24 @@ impl Axis {
         requires { ⌜ Close self × (natAbs ms ≤ 4294967296) ⌝ }
         ensures { λ r. ⌜ r .0 ≡ onAxis self ms ⌝ }
     {
-        Parts(whole::round_div(self.factor * ms - self.offset, LocalLatitude::DEGREE))
+        Parts(whole::rounded(self.factor * ms - self.offset, LocalLatitude::DEGREE as u64))
     }
 }
 
-// One equation whose sum is divided by the scale, and of whose answer 4 bytes are known to be enough.
-pub(crate) fn value(coefficients: &[i64], us: &[u8], vs: &[u8], pu: [i64; 10], pv: [i64; 10]) -> i32
+// One equation: its sum, divided and rounded once, of whose answer 4 bytes are known to be enough. The divisor is a literal of
+// who calls.
+pub(crate) fn value(
+    divisor: u64,
+    coefficients: &[i64],
+    us: &[u8],
+    vs: &[u8],
+    pu: [i64; 10],
+    pv: [i64; 10],
+) -> i32
+    requires { ⌜ (2 ≤ divisor) × (divisor ≤ 4611686018427387904) ⌝ }
     requires { ⌜ (length (now us) ≡ length (now coefficients)) × (length (now vs) ≡ length (now coefficients)) ⌝ }
-    requires { ⌜ Fits scale (terms (now coefficients) (now us) (now vs)) pu pv ⌝ }
-    ensures { λ r. ⌜ r ≡ equationOf scale (terms (now (coefficients .entry)) (now (us .entry)) (now (vs .entry))) pu pv ⌝ }
+    requires { ⌜ Fits divisor (terms (now coefficients) (now us) (now vs)) pu pv ⌝ }
+    ensures { λ r. ⌜ r ≡ equationOf divisor (terms (now (coefficients .entry)) (now (us .entry)) (now (vs .entry))) pu pv ⌝ }
 {
-    whole::rounded(equation::sum(coefficients, us, vs, pu, pv)) as i32
+    whole::rounded(equation::sum(coefficients, us, vs, pu, pv), divisor) as i32
 }

@@ -3,6 +3,7 @@ use super::Axis;
 use super::Frame;
 use super::Values;
 use kinds::LocalLatitude;
+use whole::Parts;
 ghost use mathlib.Core.Path.{_≡_};
 ghost use Rattle.tables.specs.Rule.{evaluated};
 ghost use Rattle.tables.specs.Inside.{Say, AllFit};
@@ -94,8 +95,15 @@ pub(crate) fn values(pu: [i64; 10], pv: [i64; 10]) -> Values
     ensures { λ r. ⌜ Say r (evaluated (minna .equations) pu pv) ⌝ }
 {
     Values {
-        first: super::value(&LATITUDE, &LATITUDE_U, &LATITUDE_V, pu, pv),
-        second: super::value(&LONGITUDE, &LONGITUDE_U, &LONGITUDE_V, pu, pv),
-        third: super::value(&HEIGHT, &HEIGHT_U, &HEIGHT_V, pu, pv),
+        first: super::value(Parts::DIVISOR, &LATITUDE, &LATITUDE_U, &LATITUDE_V, pu, pv),
+        second: super::value(
+            Parts::DIVISOR,
+            &LONGITUDE,
+            &LONGITUDE_U,
+            &LONGITUDE_V,
+            pu,
+            pv,
+        ),
+        third: super::value(Parts::DIVISOR, &HEIGHT, &HEIGHT_U, &HEIGHT_V, pu, pv),
     }
 }

@@ -1,13 +1,16 @@
-// A test program: quotients, powers and kinds at the edges of the machine's numbers and of each range, as it is asked.
+// A test program: quotients, powers, kinds and an area at the edges of the machine's numbers and of each range, as it is asked.
 // tests/pages.py asks, and works out what it must print from the papers.
 mod made;
+mod west;
 
 use kinds::Refusal;
 
-// A number over another: none below 1.
-fn quotient(n: i64, d: i64) {
-    if 0 < d {
-        test_show::number(whole::round_div(n, d));
+// A number over another, from 2 to 2^62: none below or above.
+fn quotient(n: i64, d: u64) {
+    if 2 <= d {
+        if d <= 4_611_686_018_427_387_904 {
+            test_show::number(whole::rounded(n, d));
+        }
     }
 }
 
@@ -51,12 +54,13 @@ fn put(out: &mut [u8]) {
 fn answer(letter: u8) {
     match letter {
         b'=' => test_ask::label(),
-        b'q' => quotient(test_ask::number(), test_ask::number()),
-        b'r' => test_show::number(whole::rounded(test_ask::number())),
+        b'q' => quotient(test_ask::number(), whole::size(test_ask::number())),
+        b'r' => test_show::number(whole::rounded(test_ask::number(), whole::Parts::DIVISOR)),
         b'p' => powers(test_ask::number()),
         b'n' => refusals(),
         b'k' => made::all(test_ask::number()),
         b'c' => made::converted(test_ask::number(), test_ask::number()),
+        b'w' => west::held(test_ask::number(), test_ask::number()),
         b't' => put(&mut [b'#'; 14]),
         _ => {}
     }

@@ -1,7 +1,7 @@
 -- A test of every one of a list: of one, of one at any place, of a part, of two together, of a weaker test, of the same test said otherwise. Assumes nothing.
 use mathlib.Core.Path.{_≡_, refl}
 use mathlib.Core.Bool.{Bool, true, _&&_}
-use mathlib.Core.List.{List, [], _∷_, _++_, map}
+use mathlib.Core.List.{List, [], _∷_, _++_}
 use Prim.Native.Nat.{ℕ, zero, suc, _<_}
 use native.Mathlib.Omega.{arith}
 use lib.Dec.{T}
@@ -53,9 +53,3 @@ every-place {A} f first rest h (suc n) = behind rest (and-yes (f first) (every f
     behind [] k n = and-yes (f first) (every f rest) h .0
     behind (x ∷ l) k zero = and-yes (f x) (every f l) k .0
     behind (x ∷ l) k (suc n) = behind l (and-yes (f x) (every f l) k .1) n
-
--- ---- the one at a place of a list that was worked out of another
-pub getD-map : {A B : Type 0} (f : A → B) (l : List A) (none : B) (other : A) (n : ℕ) → n < length l → getD (map f l) n none ≡ f (getD l n other)
-getD-map f [] none other n h = absurd (omega arith)
-getD-map f (x ∷ l) none other zero h = refl
-getD-map f (x ∷ l) none other (suc n) h = getD-map f l none other n (omega arith)

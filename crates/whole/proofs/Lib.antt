@@ -11,8 +11,6 @@ pub mod Rounding
 pub mod Orders
 -- signed words at any width: operations, tests, casts, ranges
 pub mod Words
--- a signed word divided, and rounded
-pub mod Divided
 -- tests joined by `&&` and `||`
 pub mod Bools
 -- a test computed for every number below n

@@ -52,6 +52,12 @@ rest-once r {d} h l = go (leb (d - d / 2) r) refl
         let k : r < d - d / 2 = leb-false (d - d / 2) r e in
         half-up-only r h 0 (omega arith) (omega arith) ∙ sym (div-eq-of-lt k)
 
+-- the whole part of n and half of d, over d
+pub half-up-whole : (n : ℕ) {d : ℕ} → 0 < d → roundHalfUp n d ≡ (n + d / 2) / d
+half-up-whole n {d} h =
+    half-up-only n h ((n + d / 2) / d)
+    (omega (arith, div-add-mod (n + d / 2) d)) (omega (arith, div-add-mod (n + d / 2) d, mod-lt (n + d / 2) h))
+
 -- a b / d, by what d goes into a and what is left
 pub half-up-split : (a b : ℕ) {d : ℕ} → 0 < d → roundHalfUp (a * b) d ≡ a / d * b + roundHalfUp (a % d * b) d
 half-up-split a b {d} h =

@@ -2,8 +2,7 @@
 // and the laws that the toolchain's library lacks. No geodesy.
 ghost use mathlib.Core.Path.{_≡_};
 ghost use Prim.Native.Nat.{_*_, _≤_, min};
-ghost use lib.IntN.{pos, natAbs};
-ghost use lib.Signed.{_<ℤ_};
+ghost use lib.IntN.{natAbs};
 ghost use Rattle.whole.specs.Round.{roundHalfUp, roundDiv, scale};
 
 // A number in hundred-millionths, as u and v are. K and the powers of u and v, which are bare numbers, have the same scale.
@@ -12,23 +11,18 @@ pub struct Parts(pub i64);
 impl Parts {
     // what 1 is
     pub const SCALE: i64 = 100_000_000;
+
+    // the same as a divisor
+    pub const DIVISOR: u64 = Parts::SCALE as u64;
 }
 
-// n / d to the nearest whole number, halves away from zero, of every n and every d above 0.
-// The remainder is less than d, so it holds d - d / 2, the half rounded up, once or not at all.
-pub fn round_div(n: i64, d: i64) -> i64
-    requires { ⌜ pos 0 <ℤ d ⌝ }
-    ensures { λ r. ⌜ r ≡ roundDiv n (natAbs d) ⌝ }
+// n / d to the nearest whole number, halves away from zero: by the size of n, to which half of d can always be added. Where d
+// is a literal no division instruction is left.
+pub fn rounded(n: i64, d: u64) -> i64
+    requires { ⌜ (2 ≤ d) × (d ≤ 4611686018427387904) ⌝ }
+    ensures { λ r. ⌜ r ≡ roundDiv n d ⌝ }
 {
-    n / d + n % d / (d - d / 2)
-}
-
-// n / Parts::SCALE likewise, by its size, to which half the divisor can always be added. This is the hot form: the divisor is a
-// literal, so that no division instruction is left.
-pub fn rounded(n: i64) -> i64
-    ensures { λ r. ⌜ r ≡ roundDiv n scale ⌝ }
-{
-    let q = ((size(n) + Parts::SCALE as u64 / 2) / Parts::SCALE as u64) as i64;
+    let q = ((size(n) + d / 2) / d) as i64;
     if n < 0 { -q } else { q }
 }
 

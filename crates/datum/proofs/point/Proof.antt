@@ -108,33 +108,30 @@ module _ (c : tie.Then1) where
   v-is : {v : ℤ} → v ≡ onAxis (h .before .frame .result .v) (countedFrom (h .before .frame .result .west) (position h .longitude .0)) → v ≡ along (page (n h) .v) (longitudeOn (page (n h)) (longitude (n h)))
   v-is e = e ∙ (λ i. onAxis (frame h i .v) (countedFrom (frame h i .west) (east h i))) ∙ v-coded (page (n h)) (keeps (n h)) (longitudeOn (page (n h)) (longitude (n h)))
 
-u-of-requires : tie.Need-u-of-requires
-u-of-requires c κs = subst (λ (f : Frame). Close (f .u)) (sym (frame (h c))) (close-u (page (n (h c))) (keeps (n (h c))))
+place-requires : tie.Need-place-requires
+place-requires c κs =
+    subst (λ (f : Frame). Close (f .u) × Close (f .v)) (sym (frame (h c)))
+    (close-u (page (n (h c))) (keeps (n (h c))), close-v (page (n (h c))) (keeps (n (h c))))
 
 powers-requires : tie.Need-powers-requires
 powers-requires c κs =
     let t = c .before in
-    subst (λ (x : ℤ). natAbs x ≤ 1000000000) (sym (u-is t (c .u-of .ensures))) (u-small (page (n (h t))) (keeps (n (h t))) (latitude (n (h t))) (longitude (n (h t))) (inside t))
-
-v-of-requires : tie.Need-v-of-requires
-v-of-requires c κs =
-    let t = c .before .before in
-    subst (λ (f : Frame). Close (f .v)) (sym (frame (h t))) (close-v (page (n (h t))) (keeps (n (h t))))
+    subst (λ (x : ℤ). natAbs x ≤ 1000000000) (sym (u-is t (c .place .ensures .0))) (u-small (page (n (h t))) (keeps (n (h t))) (latitude (n (h t))) (longitude (n (h t))) (inside t))
 
 powers-requires-2 : tie.Need-powers-requires-2
 powers-requires-2 c κs =
-    let t = c .before .before .before in
-    subst (λ (x : ℤ). natAbs x ≤ 1000000000) (sym (v-is t (c .v-of .ensures))) (v-small (page (n (h t))) (keeps (n (h t))) (latitude (n (h t))) (longitude (n (h t))) (inside t))
+    let t = c .before .before in
+    subst (λ (x : ℤ). natAbs x ≤ 1000000000) (sym (v-is t (c .before .place .ensures .1))) (v-small (page (n (h t))) (keeps (n (h t))) (latitude (n (h t))) (longitude (n (h t))) (inside t))
 
 module _ (c : tie.After-powers2) where
   abbrev t : tie.Then1
-  t = c .before .before .before .before
+  t = c .before .before .before
 
-  pu-is : c .before .before .powers .result ≡ powersU (page (n (h t))) (latitude (n (h t)))
-  pu-is = c .before .before .powers .ensures ∙ ap (λ (x : ℤ). powersOf scale x 10) (u-is t (c .before .before .before .u-of .ensures))
+  pu-is : c .before .powers .result ≡ powersU (page (n (h t))) (latitude (n (h t)))
+  pu-is = c .before .powers .ensures ∙ ap (λ (x : ℤ). powersOf scale x 10) (u-is t (c .before .before .place .ensures .0))
 
   pv-is : c .powers2 .result ≡ powersV (page (n (h t))) (longitude (n (h t)))
-  pv-is = c .powers2 .ensures ∙ ap (λ (x : ℤ). powersOf scale x 10) (v-is t (c .before .v-of .ensures))
+  pv-is = c .powers2 .ensures ∙ ap (λ (x : ℤ). powersOf scale x 10) (v-is t (c .before .before .place .ensures .1))
 
 values-requires : tie.Need-values-requires
 values-requires c κs =
@@ -163,9 +160,8 @@ point-spec =
     returns
     frame-requires
     holds-requires
-    u-of-requires
+    place-requires
     powers-requires
-    v-of-requires
     powers-requires-2
     values-requires
     returns-2

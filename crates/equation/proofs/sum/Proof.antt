@@ -5,6 +5,7 @@ use Prim.Native.Nat.{ℕ, _+_, _-_, _<_, _≤_}
 use native.Mathlib.Nat.{lt-of-le-of-lt, le-trans}
 use native.Mathlib.Numerals.{add-one}
 use native.Mathlib.Omega.{arith}
+use lib.Dec.{lit≤}
 use lib.ListN.{length, getD, take}
 use lib.Seq.{take-all}
 use lib.IntN.{ℤ, pos, natAbs, _+ℤ_, _*ℤ_}
@@ -146,7 +147,7 @@ mul-rounded-3 : tie.Need-mul-rounded-3 Inv-loop μ-loop
 mul-rounded-3 c = asks _*ℤ_ (a-is c) (b-is c) (product-fits (t c))
 
 rounded-requires : tie.Need-rounded-requires Inv-loop μ-loop
-rounded-requires c κs = tt
+rounded-requires c κs = (lit≤ tt, lit≤ tt)
 
 -- the product, the term's value, and the next sum
 module _ (c : tie.After-rounded Inv-loop μ-loop) where

@@ -29,8 +29,8 @@ module _ (s : tie.Start) (factor : SFits w64 (s .args .self .factor)) where
   less-fits : SFits w64 (product -ℤ s .args .self .offset)
   less-fits = small (product -ℤ s .args .self .offset) (omega (arith, abs-- product (s .args .self .offset), product-small, s .pre .0 .offset))
 
-mul-round-div : tie.Need-mul-round-div
-mul-round-div c =
+mul-rounded : tie.Need-mul-rounded
+mul-rounded c =
     let factor : SFits w64 (c .before .before .args .self .factor) = record { sfits = c .struct-told .given .0 .1 } in
     asks _*ℤ_ (of factor) (of (c .before .before .fits .ms)) (product-fits (c .before .before) factor)
 
@@ -45,18 +45,21 @@ module _ (c : tie.After-struct-told2) where
   offset-held : SFits w64 (s .args .self .offset)
   offset-held = record { sfits = c .struct-told2 .given .1 .0 .1 }
 
-sub-round-div : tie.Need-sub-round-div
-sub-round-div c = asks _-ℤ_ (product-is (s c) (factor-held c)) (of (offset-held c)) (less-fits (s c) (factor-held c))
+sub-rounded : tie.Need-sub-rounded
+sub-rounded c = asks _-ℤ_ (product-is (s c) (factor-held c)) (of (offset-held c)) (less-fits (s c) (factor-held c))
 
-round-div-requires : tie.Need-round-div-requires
-round-div-requires c κs = search needs
+cast-rounded : tie.Need-cast-rounded
+cast-rounded c = search needs
+
+rounded-requires : tie.Need-rounded-requires
+rounded-requires c κs = search needs
 
 returns : tie.Need-returns
 returns c =
     let p = c .before in
-    of (record { sfits = c .round-div .ok }) .reads
-    ∙ c .round-div .ensures
+    of (record { sfits = c .rounded .ok }) .reads
+    ∙ c .rounded .ensures
     ∙ ap (λ (x : ℤ). roundDiv x 3600000) (gives _-ℤ_ (product-is (s p) (factor-held p)) (of (offset-held p)) (less-fits (s p) (factor-held p)) .reads)
 
 pub along-spec : {M : Type 1} → statement M
-along-spec = tie.close (tie.spec mul-round-div sub-round-div round-div-requires returns)
+along-spec = tie.close (tie.spec mul-rounded sub-rounded cast-rounded rounded-requires returns)
