@@ -1,6 +1,6 @@
 -- The codes: a law over each of them by one computed test, and which of them have which family. Assumes nothing.
 use mathlib.Core.Path.{_≡_, refl, sym, ap, _∙_, subst}
-use mathlib.Core.Bool.{Bool, true, false, not, false≢true}
+use mathlib.Core.Bool.{Bool, true, false, not, Bool·beq, false≢true}
 use mathlib.Core.Logic.{_↔_}
 use Prim.Native.Nat.{ℕ, zero, suc, _<_, _≤_}
 use native.Mathlib.Omega.{arith}
@@ -8,7 +8,7 @@ use lib.Dec.{T}
 use lib.IntN.{ℤ, pos, negsuc}
 use lib.Signed.{leZ}
 use borrow.Author.Tests.{leb-true}
-use Rattle.whole.proofs.Bools.{both, not-not-so, alike, alike-is}
+use Rattle.whole.proofs.Bools.{both, not-not-so, same-so}
 use Rattle.whole.proofs.Below.{all-below, below}
 use Rattle.kinds.specs.Kinds.{within}
 use Rattle.kinds.proofs.Ranges.{wider}
@@ -34,7 +34,7 @@ each-code test t code h =
 -- ---- the codes of each family
 module _ (family : Family Equation → Bool) (a b : ℤ) where
   abbrev told : ℤ → Bool
-  told code = alike (family (pageOf code .equations)) (not (within a b code))
+  told code = Bool·beq (family (pageOf code .equations)) (not (within a b code))
 
   but-those : T (of-each told) → leZ (pos 1) a ≡ true → leZ b (pos 6) ≡ true → (code : ℤ) → ((isCode code ≡ true) × (family (pageOf code .equations) ≡ false)) ↔ (within a b code ≡ true)
   but-those t low high code = (
@@ -45,7 +45,7 @@ module _ (family : Family Equation → Bool) (a b : ℤ) where
   )
     where
       is : isCode code ≡ true → family (pageOf code .equations) ≡ not (within a b code)
-      is h = alike-is _ _ (each-code told t code h)
+      is h = same-so _ _ (each-code told t code h)
 
 pub not-shift : (code : ℤ) → ((isCode code ≡ true) × (isShift (pageOf code .equations) ≡ false)) ↔ (within (pos 5) (pos 6) code ≡ true)
 not-shift = but-those isShift (pos 5) (pos 6) tt refl refl

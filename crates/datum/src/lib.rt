@@ -13,9 +13,9 @@ ghost use mathlib.Core.Path.{_≡_};
 ghost use Rattle.kinds.specs.Answer.{gives, provided};
 ghost use Rattle.tables.specs.Page.{shift};
 ghost use Rattle.tables.specs.Inside.{datumPage};
-ghost use Rattle.datum.specs.Point.{isCode, pageOf, pointOf, answerOf, shiftOf, geoidOf};
+ghost use Rattle.datum.specs.Point.{isCode, pageOf, pointOf, asked, answerOf, shiftOf, geoidOf};
 ghost use Rattle.datum.specs.Cases.{shiftSays, shiftAnswer, geoidAnswer, pointAnswer};
-ghost use Rattle.datum.specs.Inside.{datumAnswer, SayAnswer};
+ghost use Rattle.datum.specs.Inside.{datumAnswer, valuesAnswer, isOf};
 
 // The shifts of a point from its local datum to WGS 84.
 pub struct Shifts {
@@ -55,14 +55,7 @@ pub enum PointAnswer {
 pub fn shift(code: i64, latitude: i64, longitude: i64) -> ShiftAnswer
     ensures { λ r. ⌜ shiftAnswer r ≡ shiftOf code latitude longitude ⌝ }
 {
-    let DatumAnswer::Gives(datum) = coded(code) else {
-        return ShiftAnswer::Refused(Refusal::Code);
-    };
-    let frame = datum.frame();
-    if frame.geoid {
-        return ShiftAnswer::Refused(Refusal::Family);
-    }
-    match point(datum, latitude, longitude) {
+    match asked(false, code, latitude, longitude) {
         ValuesAnswer::Gives(values) => ShiftAnswer::Gives(Shifts::of(values)),
         ValuesAnswer::Refused(why) => ShiftAnswer::Refused(why),
     }
@@ -73,14 +66,7 @@ pub fn shift(code: i64, latitude: i64, longitude: i64) -> ShiftAnswer
 pub fn geoid(code: i64, latitude: i64, longitude: i64) -> HeightAnswer
     ensures { λ r. ⌜ geoidAnswer r ≡ geoidOf code latitude longitude ⌝ }
 {
-    let DatumAnswer::Gives(datum) = coded(code) else {
-        return HeightAnswer::Refused(Refusal::Code);
-    };
-    let frame = datum.frame();
-    if !frame.geoid {
-        return HeightAnswer::Refused(Refusal::Family);
-    }
-    match point(datum, latitude, longitude) {
+    match asked(true, code, latitude, longitude) {
         ValuesAnswer::Gives(values) => HeightAnswer::Gives(Height::of(values.first)),
         ValuesAnswer::Refused(why) => HeightAnswer::Refused(why),
     }
@@ -95,14 +81,28 @@ pub fn answer(code: i64, latitude: i64, longitude: i64) -> PointAnswer
     };
     match point(datum, latitude, longitude) {
         ValuesAnswer::Gives(values) => {
-            let frame = datum.frame();
-            if frame.geoid {
+            if values.geoid {
                 PointAnswer::Geoid(Height::of(values.first))
             } else {
                 PointAnswer::Shift(Shifts::of(values))
             }
         }
         ValuesAnswer::Refused(why) => PointAnswer::Refused(why),
+    }
+}
+
+// What the datum of a code gives for a point, where it has what is asked for: a geoid height, or a shift.
+fn asked(geoid: bool, code: i64, latitude: i64, longitude: i64) -> ValuesAnswer
+    ensures { λ r. ⌜ valuesAnswer r ≡ asked (isOf geoid) code latitude longitude ⌝ }
+{
+    let DatumAnswer::Gives(datum) = coded(code) else {
+        return ValuesAnswer::Refused(Refusal::Code);
+    };
+    let frame = datum.frame();
+    if frame.geoid == geoid {
+        point(datum, latitude, longitude)
+    } else {
+        ValuesAnswer::Refused(Refusal::Family)
     }
 }
 
@@ -141,7 +141,7 @@ enum ValuesAnswer {
 
 // What a datum gives for a point; refused with 3 out of range, and with 6 outside the area.
 fn point(datum: Datum, latitude: i64, longitude: i64) -> ValuesAnswer
-    ensures { λ r. ⌜ SayAnswer r (pointOf (datumPage datum) latitude longitude) ⌝ }
+    ensures { λ r. ⌜ valuesAnswer r ≡ pointOf (datumPage datum) latitude longitude ⌝ }
 {
     let LocalPositionAnswer::Gives(position) = LocalPosition::new(latitude, longitude) else {
         return ValuesAnswer::Refused(Refusal::Range);

@@ -1,9 +1,10 @@
 -- The floats of the code's constants, what dividing by such a constant gives, and calls on a point. Assumes nothing.
-use mathlib.Core.Path.{_≡_, refl, sym, ap, _∙_}
+use mathlib.Core.Path.{_≡_, refl, ap, _∙_}
 use mathlib.Core.List.{List}
 use Prim.Native.Nat.{ℕ}
 use lib.IntN.{ℤ, pos}
-use lib.Ieee.{Float, binary64, div, ofBits, ofInt, round}
+use lib.ListN.{getD}
+use lib.Ieee.{Float, nan, binary64, div, ofBits, ofInt, round}
 use mir.Syntax.{w32, w64}
 use mir.Val.{SFits, toZ, ofZ}
 use Rattle.whole.proofs.Words.{of}
@@ -31,9 +32,8 @@ pub once-divided : (units : ℕ) {constant : Float} (n m : ℤ) → constant ≡
     → div binary64 (ofInt binary64 (toZ w32 (ofZ w32 n))) constant ≡ m dividedBy units
 once-divided units n m e fits same = λ i. div binary64 (ofInt binary64 ((of fits .reads ∙ same) i)) (e i)
 
--- ---- the three values of a point, of its three numbers as they came
-module _ {code latitude longitude : ℤ} (c : SFits w64 code) (b : SFits w64 latitude) (l : SFits w64 longitude) where
-  pub values-of : (given : Answer) {values : List Float}
-      → floatAnswer given ≡ floatingOf (toZ w64 (ofZ w64 code)) (toZ w64 (ofZ w64 latitude)) (toZ w64 (ofZ w64 longitude))
-      → values ≡ valuesOf floatZero (floatAnswer given) → values ≡ valuesOf floatZero (floatingOf code latitude longitude)
-  values-of given e same = same ∙ ap (valuesOf floatZero) (e ∙ came c b l floatingOf)
+-- ---- one of the three values of a point, of its three numbers as they came
+pub value-at : (k : ℕ) {code latitude longitude : ℤ} → SFits w64 code → SFits w64 latitude → SFits w64 longitude → (given : Answer) {values : List Float}
+    → floatAnswer given ≡ floatingOf (toZ w64 (ofZ w64 code)) (toZ w64 (ofZ w64 latitude)) (toZ w64 (ofZ w64 longitude))
+    → values ≡ valuesOf floatZero (floatAnswer given) → getD values k nan ≡ getD (valuesOf floatZero (floatingOf code latitude longitude)) k nan
+value-at k c b l given e same = ap (λ (values : List Float). getD values k nan) (same ∙ ap (valuesOf floatZero) (e ∙ came c b l floatingOf))

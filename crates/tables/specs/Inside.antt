@@ -1,7 +1,7 @@
 -- The code's own datums, frames and values, and what its functions ask of who calls them. No promise of an entry point speaks
 -- of it.
 use mathlib.Core.Path.{_≡_}
-use mathlib.Core.Bool.{cond}
+use mathlib.Core.Bool.{true, false, cond}
 use mathlib.Core.List.{List}
 use Prim.Native.Nat.{ℕ, _≤_}
 use lib.IntN.{ℤ, pos, natAbs, _-ℤ_, _*ℤ_}
@@ -57,10 +57,13 @@ countedFrom west longitude = cond (leZ west (longitude -ℤ pos 1296000000)) (lo
 abbrev pub onAxis : Axis → ℤ → ℤ
 onAxis axis x = roundDiv (axis .factor *ℤ x -ℤ axis .offset) 3600000
 
--- ---- three numbers say a datum's values: dLat, dLon and dH, or N and two zeros
+-- ---- the values of a datum: dLat, dLon and dH, or N and two zeros
+abbrev pub valuesSay : Values → Family ℤ
+valuesSay v = cond (v .geoid) (geoid (v .first)) (shift (v .first) (v .second) (v .third))
+
 abbrev pub Say : Values → Family ℤ → Type 0
-Say v (shift dLat dLon dH) = (v .first ≡ dLat) × (v .second ≡ dLon) × (v .third ≡ dH)
-Say v (geoid n) = (v .first ≡ n) × (v .second ≡ pos 0) × (v .third ≡ pos 0)
+Say v (shift dLat dLon dH) = (v .geoid ≡ false) × (v .first ≡ dLat) × (v .second ≡ dLon) × (v .third ≡ dH)
+Say v (geoid n) = (v .geoid ≡ true) × (v .first ≡ n) × (v .second ≡ pos 0) × (v .third ≡ pos 0)
 
 -- ---- what is asked, and shown of every point of a box by the test that proofs/Limits computes
 -- of an equation: no number on the way is larger than 64 bits hold, and 4 bytes hold the answer

@@ -249,6 +249,7 @@ pub(crate) fn values(pu: [i64; 10], pv: [i64; 10]) -> Values
     ensures { λ r. ⌜ Say r (evaluated (alaska .equations) pu pv) ⌝ }
 {
     Values {
+        geoid: false,
         first: super::value(Parts::DIVISOR, &LATITUDE, &LATITUDE_U, &LATITUDE_V, pu, pv),
         second: super::value(
             Parts::DIVISOR,

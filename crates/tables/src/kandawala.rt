@@ -51,6 +51,7 @@ pub(crate) fn values(pu: [i64; 10], pv: [i64; 10]) -> Values
     ensures { λ r. ⌜ Say r (evaluated (kandawala .equations) pu pv) ⌝ }
 {
     Values {
+        geoid: true,
         first: super::value(Parts::DIVISOR, &HEIGHT, &HEIGHT_U, &HEIGHT_V, pu, pv),
         second: 0,
         third: 0,

@@ -60,8 +60,9 @@ impl Datum {
     }
 }
 
-// The values of a datum as three numbers: dLat, dLon and dH, or N and two zeros.
+// The values of a datum: dLat, dLon and dH, or N and two zeros.
 pub struct Values {
+    pub geoid: bool,
     pub first: i32,
     pub second: i32,
     pub third: i32,

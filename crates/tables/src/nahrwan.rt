@@ -48,6 +48,7 @@ pub(crate) fn values(pu: [i64; 10], pv: [i64; 10]) -> Values
     ensures { λ r. ⌜ Say r (evaluated (nahrwan .equations) pu pv) ⌝ }
 {
     Values {
+        geoid: true,
         first: super::value(Parts::DIVISOR, &HEIGHT, &HEIGHT_U, &HEIGHT_V, pu, pv),
         second: 0,
         third: 0,

@@ -1,6 +1,6 @@
 -- Tests joined by `&&` and `||`, by their two cases, and one beside another. Assumes nothing.
 use mathlib.Core.Path.{_≡_, refl, sym}
-use mathlib.Core.Bool.{Bool, true, false, not, _&&_, _||_, false≢true}
+use mathlib.Core.Bool.{Bool, true, false, not, _&&_, _||_, Bool·beq, false≢true}
 use lib.Dec.{T}
 use mir.Facts.{and-yes}
 
@@ -30,21 +30,13 @@ three a b c h =
     let q = and-yes b c (p .1) in
     (p .0, q .0, q .1)
 
--- what does not hold, and two tests that say the same
-pub not-so : (b : Bool) → not b ≡ true → b ≡ false
-not-so true h = absurd (false≢true h)
-not-so false h = refl
-
+-- what does not fail, and two tests that say the same
 pub not-not-so : (b : Bool) → not b ≡ false → b ≡ true
 not-not-so true h = refl
 not-not-so false h = absurd (false≢true (sym h))
 
-abbrev pub alike : Bool → Bool → Bool
-alike true b = b
-alike false b = not b
-
-pub alike-is : (a b : Bool) → T (alike a b) → a ≡ b
-alike-is true true h = refl
-alike-is false false h = refl
-alike-is true false h = absurd h
-alike-is false true h = absurd h
+pub same-so : (a b : Bool) → T (Bool·beq a b) → a ≡ b
+same-so true true h = refl
+same-so false false h = refl
+same-so true false h = absurd h
+same-so false true h = absurd h

@@ -1,7 +1,6 @@
 -- `datum::point` meets its contract. Assumes nothing.
-use mathlib.Core.Path.{_≡_, refl, sym, ap, _∙_, subst, subst₂}
+use mathlib.Core.Path.{_≡_, sym, ap, _∙_, subst, subst₂}
 use mathlib.Core.Bool.{Bool, true, _&&_}
-use mathlib.Core.List.{List}
 use Prim.Native.Nat.{_≤_}
 use lib.Dec.{T}
 use lib.IntN.{ℤ, natAbs}
@@ -11,17 +10,14 @@ use Rattle.kinds.specs.Answer.{Answer, gives, provided}
 use Rattle.kinds.specs.Kinds.{within, isPosition}
 use Rattle.kinds.specs.Cases.{localPosition}
 use Rattle.kinds.specs.declared.LocalPosition.{LocalPosition}
-use Rattle.kinds.specs.declared.Refusal.the-variants as Refusal
 use Rattle.kinds.proofs.Answers.{passed, failed, same-value}
 use Rattle.equation.specs.Powers.{powersOf}
 use Rattle.tables.specs.Page.{Page}
 use Rattle.tables.specs.Rule.{inBox, longitudeOn, along, evaluated, powersU, powersV}
-use Rattle.tables.specs.Inside.{rowOf, datumPage, frameOf, countedFrom, onAxis, Say, AllFit, Close}
+use Rattle.tables.specs.Inside.{rowOf, datumPage, frameOf, countedFrom, onAxis, AllFit, Close}
 use Rattle.tables.specs.declared.Frame.{Frame}
 use Rattle.tables.proofs.Limits.{page-keeps, row-keeps, close-u, close-v, u-coded, v-coded, u-small, v-small, all-fit}
-use Rattle.datum.specs.Inside.{SayAnswer}
-use Rattle.datum.specs.declared.ValuesAnswer.the-variants.{Gives, Refused}
-use Rattle.datum.proofs.Points.{out-of-range, out-of-box, in-box}
+use Rattle.datum.proofs.Points.{out-of-range, out-of-box, in-box, said}
 use borrow.Author.Needs.{needs}
 use Rattle.datum.proofs.point.Statement.{statement}
 use Rattle.datum.proofs.point.Tie as tie
@@ -59,7 +55,7 @@ returns : tie.Need-returns
 returns c =
     let n = c .before .before in
     let out = failed (isPosition (latitude n) (longitude n)) 3 (latitude n, longitude n) (told n (ap localPosition (c .enum-told .given .1))) .0 in
-    subst (SayAnswer (Refused Refusal.Range)) (sym (out-of-range (page n) (latitude n) (longitude n) out)) refl
+    sym (out-of-range (page n) (latitude n) (longitude n) out)
 
 frame-requires : tie.Need-frame-requires
 frame-requires c κs = search needs
@@ -142,13 +138,13 @@ returns-2 : tie.Need-returns-2
 returns-2 c =
     let q = c .before in
     let x = n (h (t q)) in
-    subst (SayAnswer (Gives (c .values .result))) (sym (in-box (page x) (latitude x) (longitude x) (made (h (t q)) .0) (inside (t q))))
-    (subst₂ (λ (pu pv : List ℤ). Say (c .values .result) (evaluated (page x .equations) pu pv)) (pu-is q) (pv-is q) (c .values .ensures))
+    ap gives (said (c .values .result) _ (c .values .ensures) ∙ (λ i. evaluated (page x .equations) (pu-is q i) (pv-is q i)))
+    ∙ sym (in-box (page x) (latitude x) (longitude x) (made (h (t q)) .0) (inside (t q)))
 
 returns-3 : tie.Need-returns-3
 returns-3 c =
     let x = n (c .before) in
-    subst (SayAnswer (Refused Refusal.Area)) (sym (out-of-box (page x) (latitude x) (longitude x) (made (c .before) .0) (box (c .before) (c .if1 .left)))) refl
+    sym (out-of-box (page x) (latitude x) (longitude x) (made (c .before) .0) (box (c .before) (c .if1 .left)))
 
 pub point-spec : {M : Type 1} → statement M
 point-spec =

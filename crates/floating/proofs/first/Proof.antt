@@ -1,10 +1,6 @@
 -- `floating::first` meets its contract. Assumes nothing.
-use mathlib.Core.Path.{ap}
-use mathlib.Core.List.{List}
-use lib.ListN.{getD}
-use lib.Ieee.{Float, nan}
 use borrow.Author.Needs.{needs}
-use Rattle.floating.proofs.Calls.{values-of}
+use Rattle.floating.proofs.Calls.{value-at}
 use Rattle.floating.proofs.first.Statement.{statement}
 use Rattle.floating.proofs.first.Tie as tie
 
@@ -20,8 +16,7 @@ array-read-result c = search needs
 returns : tie.Need-returns
 returns c =
     let s = c .before .before in
-    ap (λ (values : List Float). getD values 0 nan)
-    (values-of (s .fits .code) (s .fits .latitude) (s .fits .longitude) (c .before .floating .result) (c .before .floating .ensures) (c .values .ensures))
+    value-at 0 (s .fits .code) (s .fits .latitude) (s .fits .longitude) (c .before .floating .result) (c .before .floating .ensures) (c .values .ensures)
 
 pub first-spec : {M : Type 1} → statement M
 first-spec = tie.close (tie.spec floating-requires values-requires array-read-result returns)

@@ -26,9 +26,9 @@ returns : tie.Need-returns
 returns c =
     let values = c .before .before .before .before .before .before .args .values in
     let held = c .before .struct-told3 .given in
-    let a = made (values .first) (record { sfits = held .0 .1 }) (c .before .before .before .before .of .ensures) in
-    let b = made (values .second) (record { sfits = held .1 .0 .1 }) (c .before .before .of2 .ensures) in
-    let h = made (values .third) (record { sfits = held .1 .1 .0 .1 }) (c .of3 .ensures) in
+    let a = made (values .first) (record { sfits = held .1 .0 .1 }) (c .before .before .before .before .of .ensures) in
+    let b = made (values .second) (record { sfits = held .1 .1 .0 .1 }) (c .before .before .of2 .ensures) in
+    let h = made (values .third) (record { sfits = held .1 .1 .1 .0 .1 }) (c .of3 .ensures) in
     λ i. shift (a i) (b i) (h i)
 
 pub of-spec : {M : Type 1} → statement M

@@ -1,0 +1,75 @@
+-- `datum::asked` meets its contract. Assumes nothing.
+use mathlib.Core.Path.{_≡_, sym, ap, _∙_}
+use mathlib.Core.Bool.{Bool, Bool·beq}
+use Rattle.whole.proofs.Words.{of}
+use Rattle.kinds.specs.Answer.{gives, provided}
+use Rattle.tables.specs.Page.{Page}
+use Rattle.tables.specs.Inside.{datumPage}
+use Rattle.tables.specs.declared.Frame.{Frame}
+use Rattle.datum.specs.Point.{isCode, pageOf, pointOf}
+use Rattle.datum.specs.Inside.{datumAnswer, isOf}
+use Rattle.datum.proofs.Calls.{coded-page, right, wrong, none, by-flag}
+use borrow.Author.Needs.{needs}
+use Rattle.datum.proofs.asked.Statement.{statement}
+use Rattle.datum.proofs.asked.Tie as tie
+
+coded-requires : tie.Need-coded-requires
+coded-requires c κs = search needs
+
+enum-known-datum : tie.Need-enum-known-datum
+enum-known-datum c = search needs
+
+enum-told : tie.Need-enum-told
+enum-told c = search needs
+
+returns : tie.Need-returns
+returns c =
+    let s = c .before .before .before in
+    none (isOf (s .args .geoid)) (s .args .code) (s .args .latitude) (s .args .longitude) (coded-page (s .fits .code) (c .before .before .coded .ensures) (ap datumAnswer (c .enum-told .given .1)))
+
+frame-requires : tie.Need-frame-requires
+frame-requires c κs = search needs
+
+-- the page of the code's datum, and whether its family is taken
+module _ (c : tie.After-frame) where
+  abbrev s : tie.Start
+  s = c .before .before .before .before .before
+
+  abbrev page : Page
+  page = datumPage (c .before .before .datum .given .0 .0)
+
+  has-page : provided (isCode (s .args .code)) 4 (gives (pageOf (s .args .code))) ≡ gives page
+  has-page = coded-page (s .fits .code) (c .before .before .before .before .coded .ensures) (ap datumAnswer (c .before .before .datum .given .1))
+
+  taken : {b : Bool} → Bool·beq (c .frame .result .geoid) (s .args .geoid) ≡ b → isOf (s .args .geoid) (page .equations) ≡ b
+  taken e = sym (by-flag (s .args .geoid) (c .frame .result .geoid) (page .equations) (ap (λ (f : Frame). f .geoid) (c .frame .ensures))) ∙ e
+
+point-requires : tie.Need-point-requires
+point-requires c κs = search needs
+
+returns-2 : tie.Need-returns-2
+returns-2 c =
+    let f = c .before .before .before in
+    let x = s f in
+    c .point .ensures
+    ∙ (λ i. pointOf (page f) (of (x .fits .latitude) .reads i) (of (x .fits .longitude) .reads i))
+    ∙ right (isOf (x .args .geoid)) (x .args .code) (x .args .latitude) (x .args .longitude) (page f) (taken f (c .before .if1 .taken)) (has-page f)
+
+returns-3 : tie.Need-returns-3
+returns-3 c =
+    let f = c .before .before in
+    let x = s f in
+    wrong (isOf (x .args .geoid)) (x .args .code) (x .args .latitude) (x .args .longitude) (page f) (taken f (c .if1 .left)) (has-page f)
+
+pub asked-spec : {M : Type 1} → statement M
+asked-spec =
+    tie.close
+    (tie.spec
+    coded-requires
+    enum-known-datum
+    enum-told
+    returns
+    frame-requires
+    point-requires
+    returns-2
+    returns-3)
