@@ -7,8 +7,8 @@
 
 What the page says of the code is read from the code's sources. Each use ends with an error where document 000, the
 definition and the code disagree, where a table does not stand by rising power of longitude, then of latitude, or under its
-own name, where a comment beside the code is not document 000's text, where the centre, K or the area is another than the
-papers', or where a worked test case is too far from the printed one.
+own name, or gives another value than its own, where a comment beside the code is not document 000's text, where the family, a
+centre, K or the area is another than the papers', or where a worked test case is too far from the printed one.
 """
 import html
 import os
@@ -27,7 +27,9 @@ PATH = 'docs/CHECK.md'
 # document 01's codes, and the file of each datum
 FILES = {1: 'cyprus', 2: 'minna', 3: 'alaska', 4: 'qatar', 5: 'kandawala', 6: 'nahrwan'}
 ENDS = ['south', 'north', 'west', 'east']
+FRAME = ['family', 'K of U', 'K of V', 'centre of U', 'centre of V', *ENDS]
 COLUMNS = {'dLat': 'LATITUDE', 'dLon': 'LONGITUDE', 'dH': 'HEIGHT', 'N': 'HEIGHT'}
+VALUES = ['first', 'second', 'third']
 UNITS = {5: ('"', '0.00001"'), 3: (' m', '0.001 m')}     # by decimal places: the page's unit, and the code's
 IN_ALL = 157
 wrong = []
@@ -37,6 +39,11 @@ wrong = []
 def source(path):
     with open(f'crates/tables/{path}', encoding='utf-8') as f:
         return f.read()
+
+
+def page_of(code):
+    """The definition's page of a datum."""
+    return source(f'specs/{FILES[code].capitalize()}.antt')
 
 
 def column(text, name):
@@ -70,25 +77,40 @@ def defined(text, name):
     return [(int(m[2]) if m[1] == 'plus' else -int(m[2]), int(m[3]), int(m[4])) for m in rows]
 
 
-def frame_of(text, start, row):
-    """The frame of the code or of the definition: K, and the others in degrees and minutes."""
-    found = {}
-    for line in re.search(rf'^{start}\n(.*?)^\}}', text, re.M | re.S)[1].rstrip('\n').split('\n'):
-        m = re.fullmatch(row, line)
-        if m:
-            found[m[1]] = int(m[4]) if m[4] else (int(m[2]), int(m[3] or 0))
-        elif not line.startswith('  equations = '):
-            raise SystemExit(f'a frame has a line that is no number: {line}')
-    return found
+def only(form, text, what):
+    """What is in the one place of a text that is of a form, from line to line."""
+    found = list(re.finditer(rf'^{form}$', text, re.M))
+    if len(found) != 1:
+        raise SystemExit(f'{what} is not there in its form, or not once')
+    return found[0].groups()
 
 
-def coded_frame(text):
-    degrees = r'(\d+) \* LocalLatitude::DEGREE(?: \+ (\d+) \* LocalLatitude::MINUTE)?'
-    return frame_of(text, r'pub\(crate\) const FRAME: Frame = Frame \{', rf'    (\w+): (?:{degrees}|([\d_]+)),')
+def angles(numbers):
+    """Degrees and minutes, by pairs."""
+    return [(int(d), int(m or 0)) for d, m in zip(numbers[::2], numbers[1::2])]
 
 
-def defined_frame(text):
-    return frame_of(text, r'\w+ = record \{', r'  (\w+) = (?:at (\d+) (\d+)|(\d+));')
+def coded_frame(code, text):
+    """What FRAME names, in the code: every line of the frame is of its form."""
+    degrees = r'(\d+) \* LocalLatitude::DEGREE'
+    rows = ['    geoid: (true|false),']
+    for axis in 'uv':
+        rows += [rf'    {axis}: Axis \{{', '        factor: K,', rf'        offset: K \* {degrees},', r'    \},']
+    rows += [rf'    {end}: {degrees}(?: \+ (\d+) \* LocalLatitude::MINUTE)?,' for end in ENDS]
+    form = '\n'.join([r'const K: i64 = ([\d_]+);', '', r'pub\(crate\) const FRAME: Frame = Frame \{', *rows, r'\};'])
+    factor, is_geoid, u, v, *ends = only(form, text, f'code {code}: the frame of the code')
+    family = 'geoid' if is_geoid == 'true' else 'shift'
+    return dict(zip(FRAME, [family, int(factor), int(factor), (int(u), 0), (int(v), 0), *angles(ends)], strict=True))
+
+
+def defined_frame(code, text):
+    """The same of the definition."""
+    rows = [rf'  {axis} = (\d+) from at (\d+) (\d+);' for axis in 'uv'] + [r'  equations = (\w+) .*;']
+    rows += [rf'  {end} = at (\d+) (\d+);' for end in ENDS]
+    form = '\n'.join([rf'{FILES[code]} = record \{{', *rows, r'\}'])
+    found = only(form, text, f'code {code}: the page of the definition')
+    (k_of_u, *u), (k_of_v, *v), family, ends = found[:3], found[3:6], found[6], found[7:]
+    return dict(zip(FRAME, [family, int(k_of_u), int(k_of_v), *angles(u), *angles(v), *angles(ends)], strict=True))
 
 
 # What is compared.
@@ -98,15 +120,32 @@ def sentence(text, name):
     return re.sub(r' +', ' ', ' '.join(line[len('// '):] for line in lines if line)).split(' = ')[1].strip()
 
 
-def placed(code, text, definition):
-    """Each table stands under its own name, in the definition's page and in the code's call."""
-    shift = len(document_000.equations(code)) == 3
-    held = 'equations = shift dLat dLon dH;' if shift else 'equations = geoid n;'
-    calls = [('latitude: super::angle', 'LATITUDE'), ('longitude: super::angle', 'LONGITUDE')] if shift else []
-    calls += [('height: super::height' if shift else 'super::height', 'HEIGHT')]
-    lines = [f'{call}(&{name}, &{name}_U, &{name}_V, pu, pv)' for call, name in calls]
-    if definition.count(held) != 1 or any(text.count(line) != 1 for line in lines):
-        wrong.append(f'code {code}: a table stands for another')
+def family_of(code):
+    """As the code and the definition call it: that of three equations, or of one."""
+    return 'shift' if len(document_000.equations(code)) == 3 else 'geoid'
+
+
+def squeezed(source):
+    """Without its layout: spaces, and the comma after the last of several lines of parameters."""
+    return re.sub(r'\s', '', source).replace(',)', ')')
+
+
+def bounds(code):
+    """The bounds in thousandths that the definition's page has, each beside its own equation."""
+    names = ['n' if name == 'N' else name for name, *_ in document_000.equations(code)]
+    form = f'  equations = {family_of(code)} ' + ' '.join(rf'\({name} near (\d+)\)' for name in names) + ';'
+    return [int(bound) for bound in only(form, page_of(code), f'code {code}: the definition\'s line of equations and bounds')]
+
+
+def placed(code, text):
+    """Each table stands under its own name, in the definition's page and in the code's calls, and is divided by the scale."""
+    bounds(code)
+    tables = [COLUMNS[name] for name, *_ in document_000.equations(code)]
+    calls = [f'super::value(Parts::DIVISOR, &{name}, &{name}_U, &{name}_V, pu, pv)' for name in tables] + ['0', '0']
+    fields = ''.join(f'{value}: {call},' for value, call in zip(VALUES, calls))
+    body, = only(r'pub\(crate\) fn values\(.*\n(?: .*\n)*\{\n((?: .*\n)*)\}', text, f'code {code}: values')
+    if squeezed(body) != squeezed(f'Values {{{fields}}}'):
+        wrong.append(f'code {code}: a table stands for another in the code, or its sum is not over the scale')
 
 
 def area(code):
@@ -115,15 +154,14 @@ def area(code):
 
 
 def framed(code, text, definition):
-    """The centre, K and the area in the definition and in the code; those of the code."""
+    """The family, the centre, K and the area in the definition and in the code; those of the code."""
     latitude, longitude, factor = document_000.frame(code)
-    paper = {'latitude': (latitude, 0), 'longitude': (longitude, 0), 'k': factor, **dict(zip(ENDS, area(code)))}
-    held = coded_frame(text)
-    for where, found in (('code', held), ('definition', defined_frame(definition))):
-        names = sorted({*paper, *found})
-        wrong.extend(f'code {code}: the {where} has another {name}' for name in names if found.get(name) != paper.get(name))
+    paper = dict(zip(FRAME, [family_of(code), factor, factor, (latitude, 0), (longitude, 0), *area(code)], strict=True))
+    held = coded_frame(code, text)
+    for where, found in (('code', held), ('definition', defined_frame(code, definition))):
+        wrong.extend(f'code {code}: the {where} has another {name}' for name in FRAME if found[name] != paper[name])
     printed = ', '.join(document_000.printed_frame(code))
-    if f'// {printed}; the area is document 01\'s.\n' not in text or f'Table {document_000.TABLES[code]}' not in text:
+    if f'// {printed}; the area is document 01\'s.\nconst K: ' not in text or f'Table {document_000.TABLES[code]}' not in text:
         wrong.append(f'code {code}: the comment above the frame is not the page\'s text')
     return held
 
@@ -194,9 +232,9 @@ def frame_table(code, held):
     of = ', '.join(name for name, _ in document_000.differences(code))
     rms = ', '.join(f'± {size} m' for _, size in document_000.differences(code))
     return 'table', ['', 'on paper', 'in the code', 'seen'], [
-        ['U', printed[0], f'centre\'s latitude {degrees(held["latitude"])}', '☐'],
-        ['V', printed[1], f'centre\'s longitude {degrees(held["longitude"])}', '☐'],
-        ['K', printed[2], f'{held["k"]} hundred-millionths', '☐'],
+        ['U', printed[0], f'centre\'s latitude {degrees(held["centre of U"])}', '☐'],
+        ['V', printed[1], f'centre\'s longitude {degrees(held["centre of V"])}', '☐'],
+        ['K', printed[2], f'{held["K of U"]} hundred-millionths', '☐'],
         [f'comparison points{f" of {of}" if "," in points else ""}', points, 'not there', '☐'],
         [f'RMS of {of}', rms, 'not there', '☐'],
         ['area, latitude', f'{ends[0]} to {ends[1]} (document 01)', f'{in_code[0]} to {in_code[1]}', '☐'],
@@ -248,9 +286,9 @@ def test_blocks(code):
 def datum_blocks(code):
     """A datum, and how many terms it has."""
     name, place, ellipsoid = document_000.datum(code)
-    text, definition = source(f'src/{FILES[code]}.rt'), source(f'specs/{FILES[code].capitalize()}.antt')
+    text, definition = source(f'src/{FILES[code]}.rt'), page_of(code)
     held = framed(code, text, definition)
-    placed(code, text, definition)
+    placed(code, text)
     footnote = [f'{place}.'] if place else []
     footnote += [f'{ellipsoid} ellipsoid.'] if ellipsoid else []
     words = footnote + [f'Gives the {document_000.gives(code)}.', f'In the code: `crates/tables/src/{FILES[code]}.rt`.']
@@ -282,6 +320,8 @@ def page_blocks():
         found, count = datum_blocks(code)
         blocks += found
         total += count
+    if f'\npages = {" ∷ ".join(FILES.values())} ∷ []\n' not in source('specs/Tables.antt'):
+        wrong.append('the definition has the pages in another order than that of the codes')
     if total != IN_ALL:
         wrong.append(f'{total} terms, and document 01 has {IN_ALL}')
     table, name, why = document_000.not_built()

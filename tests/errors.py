@@ -4,10 +4,11 @@
     python3 tests/errors.py           prints the rows of the table in docs/ERRORS.md
     python3 tests/errors.py --check   holds that page to them and to the sources that it quotes
 
-Over each area: its corners, points along its edges, points spread over it, and then points near those that were farthest off. The exact value is a whole number over one
-power of 360,000,000,000,000, in Python's whole numbers. Nothing of the crates is used in the working. The bounds are read from
-crates/datum/specs/Exact.antt, and are also held to demand 3 and to the same calculus in fractions. The working rule is
-tests/pages.py's once more, in whole numbers, which are over ten times as fast as its fractions.
+Over each area: its corners, points along its edges, points spread over it, and then points near those that were farthest off.
+The exact value is a whole number over one power of 360,000,000,000,000, in Python's whole numbers. Nothing of the crates is used
+in the working. The bounds are read from the pages of the definition, crates/tables/specs, each beside its equation, and are also
+held to demand 3 and to the same calculus in fractions. The working rule is tests/pages.py's once more, in whole numbers, which
+are over ten times as fast as its fractions.
 """
 import glob
 import re
@@ -16,6 +17,7 @@ from fractions import Fraction
 from math import ceil
 from multiprocessing import Pool
 
+import check_page
 import document_000
 import pages
 from pages import DEGREE, SCALE
@@ -135,11 +137,8 @@ def calculus(code):
 
 
 def proved():
-    """The bounds in thousandths, by code, as the definition has them."""
-    with open('crates/datum/specs/Exact.antt', encoding='utf-8') as f:
-        block = re.search(r'^bounds =\n(.*?)\n    ∷ \[\]$', f.read(), re.M | re.S)[1]
-    found = [re.fullmatch(r'    (?:∷ )?(?:shift|geoid)((?: \d+)+)', row) for row in block.split('\n')]
-    return {code: [int(h) for h in row[1].split()] for code, row in enumerate(found, 1)}
+    """The bounds in thousandths, by code, as the pages of the definition have them."""
+    return {code: check_page.bounds(code) for code in check_page.FILES}
 
 
 def table():
