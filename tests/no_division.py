@@ -12,8 +12,9 @@ import sys
 import program
 
 PAGES = 'target/obj/test_pages.o'
-# Functions into which the compiler puts whole::round_div, rounded and scaled, all with literal divisors, and equation::equation.
-HOT = ['equation::powers', 'datum::shift_at', 'datum::geoid_at']
+# Functions into which the compiler puts whole::rounded and scaled, all with literal divisors: into the second with equation::sum
+# and what is asked of each datum's tables.
+HOT = ['equation::powers', 'datum::point']
 
 
 def functions(path):
