@@ -18,6 +18,7 @@ import slips
 # the programs that run a crate, of which one at least must go wrong, where they are not `test_pages` alone
 PROGRAMS = {
     'whole': ['test_figures', 'lines'], 'kinds': ['test_figures'], 'equation': ['test_figures', 'test_pages'],
+    'tables': ['test_pages', 'test_figures'],    # the second for an area that goes through Greenwich, as none of the six does
     'position': ['test_texts'], 'numbers': ['test_sheets'], 'layout': ['test_sheets'], 'sheet': ['test_sheets'],
     'decimal': ['test_points'], 'line': ['test_points'], 'stream': ['lines'], 'lines': ['lines'], 'buckettin': ['test_calls'],
 }
