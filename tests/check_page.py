@@ -8,7 +8,8 @@
 What the page says of the code is read from the code's sources. Each use ends with an error where document 000, the
 definition and the code disagree, where a table does not stand by rising power of longitude, then of latitude, or under its
 own name, or gives another value than its own, where a comment beside the code is not document 000's text, where the family, a
-centre, K or the area is another than the papers', or where a worked test case is too far from the printed one.
+centre, K or the area is another than the papers', where the definition has the pages in another order than that of the codes, or
+where a worked test case is too far from the printed one.
 """
 import html
 import os
@@ -139,7 +140,7 @@ def bounds(code):
 
 def placed(code, text):
     """Each table stands under its own name, in the definition's page and in the code's calls, and is divided by the scale."""
-    bounds(code)
+    bounds(code)               # ends where the definition has it otherwise
     tables = [COLUMNS[name] for name, *_ in document_000.equations(code)]
     calls = [f'super::value(Parts::DIVISOR, &{name}, &{name}_U, &{name}_V, pu, pv)' for name in tables] + ['0', '0']
     fields = ''.join(f'{value}: {call},' for value, call in zip(VALUES, calls))
