@@ -12,7 +12,7 @@ use lib.Seq.{take-append-seam, drop-append-seam}
 use borrow.Author.Tests.{leb-true, leb-false, le-leb, lt-leb}
 use Rattle.whole.specs.Round.{roundDiv}
 use Rattle.kinds.specs.Answer.{Answer, gives, refused, Test, inOrder, AllHold, FirstFails, refusalOf, numberOf, placed, lent}
-use Rattle.kinds.specs.Cases.{localLatitude, localLongitude, wgs84Latitude, wgs84Longitude, angleShift, height, written}
+use Rattle.kinds.specs.Cases.{localLatitude, localLongitude, localPosition, wgs84Latitude, wgs84Longitude, angleShift, height, written}
 use Rattle.kinds.specs.Kinds.{converted}
 use Rattle.kinds.specs.declared.Wgs84Latitude.{Wgs84Latitude}
 use Rattle.kinds.specs.declared.Wgs84Longitude.{Wgs84Longitude}
@@ -24,6 +24,8 @@ use Rattle.kinds.specs.declared.LocalLatitudeAnswer.{LocalLatitudeAnswer
 use Rattle.kinds.specs.declared.LocalLatitudeAnswer.the-variants as LocalLatitude
 use Rattle.kinds.specs.declared.LocalLongitudeAnswer.{LocalLongitudeAnswer}
 use Rattle.kinds.specs.declared.LocalLongitudeAnswer.the-variants as LocalLongitude
+use Rattle.kinds.specs.declared.LocalPositionAnswer.{LocalPositionAnswer}
+use Rattle.kinds.specs.declared.LocalPositionAnswer.the-variants as LocalPosition
 use Rattle.kinds.specs.declared.Wgs84LatitudeAnswer.{Wgs84LatitudeAnswer}
 use Rattle.kinds.specs.declared.Wgs84LatitudeAnswer.the-variants as Latitude84
 use Rattle.kinds.specs.declared.Wgs84LongitudeAnswer.{Wgs84LongitudeAnswer}
@@ -148,6 +150,16 @@ local-longitude-determined = determined (λ x. LocalLongitude.Gives (record { 0 
     back : (e : LocalLongitudeAnswer) → rebuilt (λ x. LocalLongitude.Gives (record { 0 = x })) LocalLongitude.Refused (localLongitude e) ≡ e
     back (LocalLongitude.Gives x) = refl
     back (LocalLongitude.Refused r) = ap LocalLongitude.Refused (number-back r)
+
+pub local-position-determined : (a b : LocalPositionAnswer) → localPosition a ≡ localPosition b → a ≡ b
+local-position-determined = determined yes LocalPosition.Refused localPosition back
+  where
+    yes : ℤ × ℤ → LocalPositionAnswer
+    yes p = LocalPosition.Gives (record { latitude = record { 0 = p .0 }; longitude = record { 0 = p .1 } })
+
+    back : (e : LocalPositionAnswer) → rebuilt yes LocalPosition.Refused (localPosition e) ≡ e
+    back (LocalPosition.Gives p) = refl
+    back (LocalPosition.Refused r) = ap LocalPosition.Refused (number-back r)
 
 pub wgs84-latitude-determined : (a b : Wgs84LatitudeAnswer) → wgs84Latitude a ≡ wgs84Latitude b → a ≡ b
 wgs84-latitude-determined = determined (λ x. Latitude84.Gives (record { 0 = x })) Latitude84.Refused wgs84Latitude back
