@@ -47,13 +47,6 @@ within-same {h} {n} {x} f g e p w = record {
         ∙ ap natAbs (crossed (f .top) (g .top) (f .bottom) (g .bottom) e)
         ∙ abs-* (x *ℤ pos (g .bottom) -ℤ g .top) (pos (f .bottom))
 
--- a fraction times s / s
-pub same-times : (f : Fraction) (s : ℕ) → Same f (f times (pos s over s))
-same-times f s = apart (f .top) (f .bottom)
-  where
-    apart : (t : ℤ) (b : ℕ) → t *ℤ pos (b * s) ≡ t *ℤ pos s *ℤ pos b
-    apart t b = rw (by-diff t, pos-diff b, pos-diff s, pos-diff (b * s)) (simp ring₀ (diff-cong _ _ _ _ (omega arith)))
-
 -- and so times w
 pub same-scaled : (f : Fraction) (s w : ℕ) → Same (f times (pos s over s) times whole (pos w)) (f times whole (pos w))
 same-scaled f s w = apart (f .top) (f .bottom)

@@ -1,18 +1,18 @@
 -- The laws of division rounded to the nearest, halves away from zero: `roundHalfUp` of naturals first, then `roundDiv`.
 -- Assumes nothing.
 use mathlib.Core.Path.{_≡_, refl, sym, ap, _∙_, subst}
-use mathlib.Core.Bool.{Bool, true, false}
+use mathlib.Core.Bool.{true, false}
 use Prim.Native.Nat.{ℕ, zero, suc, _+_, _-_, _*_, _/_, _%_, _<_, _≤_, suc-le-suc}
-use native.Mathlib.Nat.{le-antisymm, mul-le-mul-left, lt-of-mul-lt-mul-left, lt-of-mul-lt-mul-right, le-div-iff-mul-le, div-add-mod, mod-lt, div-eq-of-lt, div-eq-of-lt-le}
+use native.Mathlib.Nat.{le-antisymm, lt-of-mul-lt-mul-left, lt-of-mul-lt-mul-right, le-div-iff-mul-le, div-add-mod, mod-lt, div-eq-of-lt-le}
 use native.Mathlib.Omega.{arith}
 use lib.Dec.{T, leb, leb→le, le→leb}
-use borrow.Author.Tests.{leb-true, leb-false}
-use lib.IntN.{ℤ, pos, negsuc, negℤ, natAbs, _+ℤ_, _-ℤ_, _*ℤ_, negℤ-negℤ, -ℤ-+ℤ-cancel}
-use lib.Signed.{mag, quotZ, remZ, nonNeg, ltZ, leZ, _≤ℤ_, leZ-yes}
+
+use lib.IntN.{ℤ, pos, negsuc, negℤ, natAbs, _-ℤ_, _*ℤ_, negℤ-negℤ, -ℤ-+ℤ-cancel}
+use lib.Signed.{nonNeg, ltZ, leZ, _≤ℤ_, leZ-yes}
 use Rattle.whole.specs.Round.{roundHalfUp, roundDiv}
 use Rattle.whole.proofs.Ring.{by-diff, pos-diff, diff-cong, ring₀, pos-sub, -ℤ-negℤ, negℤ-*ℤ}
 use Rattle.whole.proofs.Sizes.{abs-neg, abs-sub, abs-+, abs--, abs-*, abs-*-≤, abs-round, abs-zero, same-size}
-use Rattle.whole.proofs.Signs.{signed, by-sign, signed-+, signed-*-pos, signed-quot, signed-rem, signed-round, signed-mag, below-zero, from-zero}
+use Rattle.whole.proofs.Signs.{signed, by-sign, signed-*-pos, signed-round, below-zero, from-zero}
 
 -- ---- two naturals
 module _ (n : ℕ) {d : ℕ} (h : 0 < d) where
@@ -36,22 +36,7 @@ half-up-mono {m} {n} {d} h l = at-most (lt-of-mul-lt-mul-left (2 * d) (omega (ar
 pub half-up-exact : (q : ℕ) {d : ℕ} → 0 < d → roundHalfUp (q * d) d ≡ q
 half-up-exact q {d} h = half-up-only (q * d) h q (omega arith) (omega arith)
 
-pub half-up-≤ : (n : ℕ) {d : ℕ} → 0 < d → roundHalfUp n d ≤ n
-half-up-≤ n {d} h = at-most (lt-of-mul-lt-mul-left (2 * d) (omega (arith, half-up-low n h, mul-le-mul-left n h)))
-
--- ---- by the quotient and the remainder
--- the remainder r, below d, holds the half d - d / 2 once or not at all
-rest-once : (r : ℕ) {d : ℕ} → 0 < d → r < d → roundHalfUp r d ≡ r / (d - d / 2)
-rest-once r {d} h l = go (leb (d - d / 2) r) refl
-  where
-    go : (t : Bool) → leb (d - d / 2) r ≡ t → roundHalfUp r d ≡ r / (d - d / 2)
-    go true e =
-        let k : d - d / 2 ≤ r = leb-true (d - d / 2) r e in
-        half-up-only r h 1 (omega arith) (omega arith) ∙ sym (div-eq-of-lt-le {k = 1} (d - d / 2) (omega arith) (omega arith))
-    go false e =
-        let k : r < d - d / 2 = leb-false (d - d / 2) r e in
-        half-up-only r h 0 (omega arith) (omega arith) ∙ sym (div-eq-of-lt k)
-
+-- ---- by whole quotients
 -- the whole part of n and half of d, over d
 pub half-up-whole : (n : ℕ) {d : ℕ} → 0 < d → roundHalfUp n d ≡ (n + d / 2) / d
 half-up-whole n {d} h =
@@ -66,14 +51,6 @@ half-up-split a b {d} h =
   where
     whole : d * (a / d) * b + a % d * b ≡ a * b
     whole = omega (arith, ap (λ (n : ℕ). n * b) (div-add-mod a d))
-
-pub half-up-rest : (a : ℕ) {d : ℕ} → 0 < d → roundHalfUp a d ≡ a / d + a % d / (d - d / 2)
-half-up-rest a {d} h =
-    half-up-only a h (a / d + a % d / (d - d / 2))
-    (omega (arith, div-add-mod a d, same, half-up-low (a % d) h)) (omega (arith, div-add-mod a d, same, half-up-high (a % d) h))
-  where
-    same : roundHalfUp (a % d) d * d ≡ a % d / (d - d / 2) * d
-    same = ap (λ (n : ℕ). n * d) (rest-once (a % d) h (mod-lt a h))
 
 -- ---- whole numbers
 pub round-neg : (n : ℤ) (d : ℕ) → roundDiv (negℤ n) d ≡ negℤ (roundDiv n d)
@@ -168,17 +145,6 @@ module _ (n : ℤ) {d : ℕ} (h : 0 < d) where
       same-size (roundDiv n d) q (le-antisymm (far (roundDiv n d) round-within) (round-farthest q k))
       (at-most (lt-of-mul-lt-mul-right d (omega (arith, apart q, round-within))))
 
-pub mag-round : (n : ℤ) {d : ℕ} → 0 < d → mag (roundDiv n d) ≤ mag n
-mag-round n {d} h =
-    subst (λ (z : ℤ). mag (roundDiv z d) ≤ mag z) (sym (by-sign n))
-    (rw signed-round (signed-mag (nonNeg n) _ _ (half-up-≤ (natAbs n) h)))
-
 -- of a product, by the limits of its factors
 pub product-size : (p u : ℤ) {a b d : ℕ} → 0 < d → natAbs p ≤ a → natAbs u ≤ b → natAbs (roundDiv (p *ℤ u) d) ≤ roundHalfUp (a * b) d
 product-size p u h k l = rw abs-round (half-up-mono h (abs-*-≤ p u k l))
-
--- ---- by the quotient and the remainder, as the code works
-pub round-by-rest : (n : ℤ) {d : ℕ} → 0 < d → quotZ n (pos d) +ℤ quotZ (remZ n (pos d)) (pos (d - d / 2)) ≡ roundDiv n d
-round-by-rest n {d} h =
-    subst (λ (z : ℤ). quotZ z (pos d) +ℤ quotZ (remZ z (pos d)) (pos (d - d / 2)) ≡ roundDiv z d) (sym (by-sign n))
-    (simp (signed-quot, signed-rem, signed-+, signed-round) (ap (signed (nonNeg n)) (sym (half-up-rest (natAbs n) h))))

@@ -1,13 +1,13 @@
 -- A number by its sign and its size. An identity between terms of one sign is an identity of ℕ. Assumes nothing.
 use mathlib.Core.Path.{_≡_, refl, sym, ap, _∙_, subst}
 use mathlib.Core.Bool.{Bool, true, false}
-use Prim.Native.Nat.{ℕ, zero, suc, _+_, _*_, _/_, _%_, _<_, _≤_}
-use native.Mathlib.Nat.{add-zero, zero-add, zero-mul, mul-zero, zero-div, zero-mod, div-le-self, div-eq-of-lt}
+use Prim.Native.Nat.{ℕ, zero, suc, _+_, _*_, _<_}
+use native.Mathlib.Nat.{add-zero, zero-add, zero-mul, mul-zero, div-eq-of-lt}
 use native.Mathlib.Omega.{arith}
 use lib.Dec.{T, ltb→lt}
 use borrow.Author.Tests.{ltb-true}
 use lib.IntN.{ℤ, pos, negsuc, negℤ, natAbs, _+ℤ_, _-ℤ_, _*ℤ_, +ℤ-idr, +ℤ-idl}
-use lib.Signed.{mag, quotZ, remZ, nonNeg, ltZ, _<ℤ_}
+use lib.Signed.{mag, nonNeg, ltZ, _<ℤ_}
 use Rattle.whole.specs.Round.{roundHalfUp, roundDiv}
 use Rattle.whole.proofs.Ring.{ -ℤ-negℤ}
 use Rattle.whole.proofs.Sizes.{abs-neg}
@@ -60,16 +60,6 @@ pub signed-apart : (s : Bool) (a b : ℕ) → natAbs (signed s a -ℤ signed s b
 signed-apart true a b = refl
 signed-apart false a b = ap natAbs (-ℤ-negℤ (pos a) (pos b)) ∙ abs-neg (pos a -ℤ pos b)
 
-pub signed-quot : (s : Bool) (a k : ℕ) → quotZ (signed s a) (pos k) ≡ signed s (a / k)
-signed-quot true a k = refl
-signed-quot false zero k = zero-signed (zero-div k)
-signed-quot false (suc a) k = refl
-
-pub signed-rem : (s : Bool) (a k : ℕ) → remZ (signed s a) (pos k) ≡ signed s (a % k)
-signed-rem true a k = refl
-signed-rem false zero k = zero-signed (zero-mod k)
-signed-rem false (suc a) k = refl
-
 half-up-zero : (d : ℕ) → roundHalfUp 0 d ≡ 0
 half-up-zero zero = refl
 half-up-zero (suc d) = div-eq-of-lt (less d)
@@ -82,18 +72,6 @@ unfolding roundDiv
 signed-round true a d = refl
 signed-round false zero d = zero-signed (half-up-zero d)
 signed-round false (suc a) d = refl
-
--- of two of one sign, the smaller is held where the larger is
-pub signed-mag : (s : Bool) (a b : ℕ) → a ≤ b → mag (signed s a) ≤ mag (signed s b)
-signed-mag true a b h = h
-signed-mag false zero b h = omega arith
-signed-mag false (suc a) zero h = absurd (omega arith)
-signed-mag false (suc a) (suc b) h = omega arith
-
-pub mag-quot : (x : ℤ) (k : ℕ) → mag (quotZ x (pos k)) ≤ mag x
-mag-quot x k =
-    subst (λ (z : ℤ). mag (quotZ z (pos k)) ≤ mag z) (sym (by-sign x))
-    (rw signed-quot (signed-mag (nonNeg x) _ _ (div-le-self (natAbs x) k)))
 
 -- ---- what a test of the sign says
 pub above-is : {x : ℤ} → pos 0 <ℤ x → x ≡ pos (natAbs x)
