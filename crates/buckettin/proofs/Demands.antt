@@ -10,10 +10,11 @@ use lib.ListN.{length, take, drop}
 use borrow.Author.Tests.{not-false}
 use Rattle.whole.specs.Round.{roundDiv}
 use Rattle.whole.specs.Places.{fromPlaces, inPlaces}
+use Rattle.whole.specs.Digits.{allDigits, fromDigits, digitOf, digits}
 use Rattle.kinds.specs.Answer.{Answer, gives, refused, refusalOf, counted, lent}
 use Rattle.kinds.specs.Kinds.{within}
 use Rattle.kinds.proofs.Answers.{told, is, is-or}
-use Rattle.position.specs.Text.{Coordinate, latitude, longitude, textLength, isAngle, inSixties, angle, allDigits, fromDigits, digitOf, spelled, digits, read, write}
+use Rattle.position.specs.Text.{Coordinate, latitude, longitude, textLength, isAngle, inSixties, angle, spelled, read, write}
 use Rattle.position.proofs.Demands as position
 use Rattle.equation.specs.Powers.{power, powersOf}
 use Rattle.equation.specs.Equation.{sum, equationOf}

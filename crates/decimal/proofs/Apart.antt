@@ -11,12 +11,12 @@ use lib.IntN.{ℤ, pos, negsuc, natAbs}
 use lib.ListN.{length, getD}
 use borrow.Author.Tests.{eqb-true, eqb-false}
 use Rattle.whole.specs.Places.{fromPlaces, inPlaces}
+use Rattle.whole.specs.Digits.{isDigit, digitOf, byteOf, allDigits, fromDigits, digits}
 use Rattle.whole.proofs.Bools.{by-test}
 use Rattle.whole.proofs.Words.{sized}
+use Rattle.whole.proofs.Digits.{all-digits, number-of, number-below, digits-of}
 use Rattle.kinds.specs.Kinds.{isFourBytes}
 use Rattle.kinds.proofs.Tested.{of-four-bytes}
-use Rattle.position.specs.Text.{isDigit, digitOf, byteOf, allDigits, fromDigits, digits}
-use Rattle.position.proofs.Digits as position
 use Rattle.decimal.specs.Decimal.{unpadded, decimal, printedNumber}
 use Rattle.decimal.proofs.Numbers.{zero-goes, first-stays, unpadded-every, digits-long}
 
@@ -36,7 +36,7 @@ unpadded-says (b ∷ next ∷ rest) =
 
 pub digits-say : (n : ℕ) → n < 10 ^ 10 → (allDigits (decimal n) ≡ true) × (fromDigits (decimal n) ≡ n)
 unfolding decimal allDigits
-digits-say n h = (unpadded-every isDigit (digits 10 n) (position.all-digits 10 n), unpadded-says (digits 10 n) ∙ position.number-of 10 n h)
+digits-say n h = (unpadded-every isDigit (digits 10 n) (all-digits 10 n), unpadded-says (digits 10 n) ∙ number-of 10 n h)
 
 -- ---- and it has none
 no-zero : (l : List ℕ) → 0 < length l → (0 < length (unpadded l)) × (getD (unpadded l) 0 0 ≡ 48 → length (unpadded l) ≡ 1)
@@ -78,8 +78,8 @@ any-width (suc v) w n some more h =
 pub one-text : (t : List ℕ) → allDigits t ≡ true → 0 < length t → length t ≤ 10 → (getD t 0 0 ≡ 48 → length t ≡ 1) → decimal (fromDigits t) ≡ t
 unfolding decimal
 one-text t all some few first =
-    any-width 10 (length t) (fromDigits t) some few (position.number-below t all)
-    ∙ ap unpadded (position.digits-of t all)
+    any-width 10 (length t) (fromDigits t) some few (number-below t all)
+    ∙ ap unpadded (digits-of t all)
     ∙ stays t first
 
 -- ---- two numbers are printed alike where they are one

@@ -6,8 +6,8 @@ use Prim.Native.Nat.{ℕ, suc, _<_, _≤_, _^_}
 use lib.IntN.{ℤ, pos, negℤ}
 use lib.ListN.{length, getD}
 use Rattle.whole.specs.Places.{inPlaces}
+use Rattle.whole.specs.Digits.{allDigits, fromDigits, digits}
 use Rattle.kinds.specs.Kinds.{isFourBytes}
-use Rattle.position.specs.Text.{allDigits, fromDigits, digits}
 use Rattle.decimal.specs.Decimal.{unpadded, decimal, printedNumber}
 use Rattle.decimal.proofs.Apart as apart
 

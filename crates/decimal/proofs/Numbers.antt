@@ -16,11 +16,11 @@ use mir.Syntax.{w32, w64}
 use mir.Val.{Fits, SFits, toZ, ofZ}
 use Rattle.whole.specs.Every.{every}
 use Rattle.whole.specs.Places.{inPlaces}
+use Rattle.whole.specs.Digits.{byteOf, digits}
 use Rattle.whole.proofs.Bools.{both, by-test}
 use Rattle.whole.proofs.Places.{in-places-long}
 use Rattle.whole.proofs.Words.{of, zero-is, tested, widened, sized}
 use Rattle.kinds.proofs.Writing.{byte-after, lent-part, grown}
-use Rattle.position.specs.Text.{byteOf, digits}
 use Rattle.decimal.specs.Decimal.{minus, unpadded, decimal, printedNumber}
 
 -- ---- leading zeros

@@ -4,7 +4,7 @@ use mathlib.Core.List.{List, [], _∷_}
 use Prim.Native.Nat.{ℕ, suc}
 use lib.Dec.{eqb}
 use lib.IntN.{ℤ, pos, negsuc}
-use Rattle.position.specs.Text.{digits}
+use Rattle.whole.specs.Digits.{digits}
 
 abbrev pub minus : ℕ
 minus = 45

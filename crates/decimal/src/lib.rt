@@ -3,7 +3,7 @@ ghost use mathlib.Core.Path.{_≡_};
 ghost use mathlib.Core.List.{[], _∷_, _++_};
 ghost use Prim.Native.Nat.{_+_, _%_, _≤_};
 ghost use lib.ListN.{length, drop};
-ghost use Rattle.position.specs.Text.{digits};
+ghost use Rattle.whole.specs.Digits.{digits};
 ghost use Rattle.decimal.specs.Decimal.{unpadded, decimal, printedNumber};
 
 // A number and the byte that follows it, at the start of what is lent.

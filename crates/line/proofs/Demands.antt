@@ -9,11 +9,12 @@ use lib.IntN.{ℤ, pos, negℤ}
 use lib.ListN.{length}
 use borrow.Author.Tests.{eqb-true}
 use Rattle.whole.specs.Places.{fromPlaces, inPlaces}
+use Rattle.whole.specs.Digits.{allDigits, fromDigits, digitOf, digits}
 use Rattle.whole.proofs.Bools.{either}
 use Rattle.kinds.specs.Answer.{gives, refused, AllHold, FirstFails, inOrder, placed}
 use Rattle.kinds.proofs.Answers.{held, first-number, in-two, following-tests}
 use Rattle.kinds.proofs.Demands as kinds
-use Rattle.position.specs.Text.{latitude, longitude, hasText, allDigits, fromDigits, digitOf, digits, isAngle, inSixties, angle}
+use Rattle.position.specs.Text.{latitude, longitude, hasText, isAngle, inSixties, angle}
 use Rattle.tables.specs.Page.{Family, shift, geoid, isEither}
 use Rattle.tables.specs.Rule as rule
 use Rattle.datum.specs.Point.{answerOf, pageOf}

@@ -9,11 +9,12 @@ use lib.IntN.{ℤ, pos}
 use lib.ListN.{length, take, drop, getD, length-append, length-drop, take-append-drop}
 use lib.Seq.{take-at, drop-at, take-all, drop-cons, drop-drop}
 use borrow.Author.Tests.{leb-true, le-leb, eqb-true, eq-eqb}
+use Rattle.whole.specs.Digits.{isDigit, digitOf, byteOf}
 use Rattle.whole.proofs.Bools.{both, joined}
 use Rattle.kinds.specs.Answer.{gives, provided, AllHold}
 use Rattle.kinds.proofs.Answers.{passed, same-value}
 use Rattle.kinds.proofs.Bytes.{length-part}
-use Rattle.position.specs.Text.{Coordinate, latitude, longitude, textLength, hasText, isDigit, digitOf, byteOf, rightKinds, rightRanges, value, read, text}
+use Rattle.position.specs.Text.{Coordinate, latitude, longitude, textLength, hasText, rightKinds, rightRanges, value, read, text}
 use Rattle.position.proofs.Reading.{right-length}
 use Rattle.position.proofs.Demands as position
 use Rattle.line.specs.Line.{space, codeByte, latitudeText, longitudeText, code, latitudeOf, longitudeOf, textTests}

@@ -8,11 +8,11 @@ use lib.Dec.{leb, ltb}
 use lib.IntN.{ℤ, pos, negsuc}
 use borrow.Author.Tests.{leb-true, lt-ltb, ltb-true}
 use Rattle.whole.specs.Every.{every}
+use Rattle.whole.specs.Digits.{isDigit, allDigits, digits}
 use Rattle.whole.proofs.Bools.{both}
 use Rattle.whole.proofs.Every.{every-weaker}
+use Rattle.whole.proofs.Digits.{all-digits}
 use Rattle.kinds.specs.Kinds.{isFourBytes}
-use Rattle.position.specs.Text.{isDigit, allDigits, digits}
-use Rattle.position.proofs.Digits.{all-digits}
 use Rattle.tables.specs.Page.{Family, shift, geoid, each}
 use Rattle.decimal.specs.Decimal.{decimal, printedNumber}
 use Rattle.line.specs.Line.{space, lineFeed, answerLine}

@@ -8,10 +8,10 @@ use lib.Dec.{eqb, leb}
 use lib.IntN.{ℤ, pos, negsuc}
 use lib.ListN.{length, length-append}
 use borrow.Author.Tests.{leb-true, ne-eqb}
+use Rattle.whole.specs.Digits.{isDigit, allDigits, digits}
 use Rattle.whole.proofs.Bools.{both}
 use Rattle.whole.proofs.Every.{every-joined, every-weaker}
-use Rattle.position.specs.Text.{isDigit, allDigits, digits}
-use Rattle.position.proofs.Digits.{all-digits}
+use Rattle.whole.proofs.Digits.{all-digits}
 use Rattle.tables.specs.Page.{Family, shift, geoid}
 use Rattle.decimal.specs.Decimal.{decimal, printedNumber}
 use Rattle.line.specs.Line.{space, lineFeed, unbroken, answerLine}

@@ -10,12 +10,13 @@ use lib.ListN.{length, getD}
 use borrow.Author.Tests.{lt-ltb, le-ltb, eq-eqb, ne-eqb, leb-true, not-true, not-false}
 use mir.Syntax.{w64}
 use mir.Val.{SFits, toZ}
+use Rattle.whole.specs.Digits.{isDigit, digitOf}
 use Rattle.whole.proofs.Bools.{both}
 use Rattle.whole.proofs.Words.{Holds, from-unsigned}
 use Rattle.kinds.specs.Answer.{Answer, gives, refused, provided, _else_, refusalOf}
 use Rattle.kinds.proofs.Answers.{not-both, same-value, passed, following-tests}
 use Rattle.kinds.proofs.Bytes.{length-part}
-use Rattle.position.specs.Text.{latitude, longitude, isDigit, digitOf, rightKinds, rightRanges, value, read}
+use Rattle.position.specs.Text.{latitude, longitude, rightKinds, rightRanges, value, read}
 use Rattle.position.proofs.Reading.{right-length}
 use Rattle.line.specs.Line.{space, codeByte, latitudeText, longitudeText, code}
 use Rattle.line.specs.Inside.{Said, pointSaid, withLongitude, firstRefusal}

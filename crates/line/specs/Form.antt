@@ -3,7 +3,8 @@
 use mathlib.Core.List.{List, _∷_, _++_}
 use Prim.Native.Nat.{ℕ}
 use lib.IntN.{ℤ}
-use Rattle.position.specs.Text.{latitude, longitude, byteOf, text}
+use Rattle.whole.specs.Digits.{byteOf}
+use Rattle.position.specs.Text.{latitude, longitude, text}
 use Rattle.line.specs.Line.{space}
 
 -- 'code digit, space, latitude text, space, longitude text'

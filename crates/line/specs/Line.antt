@@ -6,9 +6,10 @@ use lib.Dec.{eqb}
 use lib.IntN.{ℤ, pos}
 use lib.ListN.{length, getD}
 use Rattle.whole.specs.Every.{every}
+use Rattle.whole.specs.Digits.{isDigit, digitOf}
 use Rattle.kinds.specs.Answer.{Answer, gives, Test, _else_, inOrder, placed, following}
 use Rattle.kinds.specs.Bytes.{part}
-use Rattle.position.specs.Text.{latitude, longitude, isDigit, digitOf, rightKinds, rightRanges, value}
+use Rattle.position.specs.Text.{latitude, longitude, rightKinds, rightRanges, value}
 use Rattle.tables.specs.Page.{Family, shift, geoid}
 use Rattle.tables.specs.Rule.{inArea, worked}
 use Rattle.datum.specs.Point.{isCode, pageOf}

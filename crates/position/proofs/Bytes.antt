@@ -8,9 +8,10 @@ use native.Mathlib.Omega.{arith}
 use lib.ListN.{length, take, drop, length-map}
 use lib.Seq.{take-all, length-take-le}
 use Rattle.whole.specs.Places.{fromPlaces}
+use Rattle.whole.specs.Digits.{isDigit, digitOf, allDigits, fromDigits}
 use Rattle.kinds.specs.Bytes.{part}
 use Rattle.kinds.proofs.Bytes.{at, part-next, part-two}
-use Rattle.position.specs.Text.{latitude, longitude, isDigit, digitOf, allDigits, fromDigits, isAngle, inSixties, angle}
+use Rattle.position.specs.Text.{latitude, longitude, isAngle, inSixties, angle}
 
 -- ---- a list, byte by byte
 -- f 0, f 1 and so on

@@ -12,10 +12,11 @@ use lib.ListN.{length, take, drop, replicate}
 use lib.Seq.{take-at}
 use borrow.Author.Tests.{eq-eqb, ne-eqb, eqb-true, eqb-false, le-leb}
 use Rattle.whole.specs.Places.{fromPlaces}
+use Rattle.whole.specs.Digits.{isDigit, digitOf, allDigits, fromDigits}
 use Rattle.kinds.specs.Answer.{Answer, gives, refused, lent}
 use Rattle.kinds.proofs.Answers.{one-of, first-failed, fails-at}
 use Rattle.kinds.proofs.Demands.{written-where, unwritten-where}
-use Rattle.position.specs.Text.{Coordinate, latitude, longitude, fullStop, places, textLength, hasText, isLetter, isDigit, formed, ms, digitOf, allDigits, fromDigits, degrees, minutes, seconds, thousandths, letter, isAngle, inSixties, angle, byLetter, noZeroSouth, rightKinds, rightRanges, value, readTests, read, text, writeTests, write}
+use Rattle.position.specs.Text.{Coordinate, latitude, longitude, fullStop, places, textLength, hasText, isLetter, formed, ms, degrees, minutes, seconds, thousandths, letter, isAngle, inSixties, angle, byLetter, noZeroSouth, rightKinds, rightRanges, value, readTests, read, text, writeTests, write}
 use Rattle.position.proofs.Bytes.{by-bytes}
 use Rattle.position.proofs.Trip as trip
 

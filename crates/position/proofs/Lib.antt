@@ -9,8 +9,6 @@ mod OneWord
 pub mod Reading
 -- what each return of a writing answers, and leaves in the lent buffer
 pub mod Writing
--- a number in digits, and back
-pub mod Digits
 -- a text of the form is read as its number, and a text that is read has the form
 pub mod Trip
 -- what document 01 asks of positions as text

@@ -10,15 +10,16 @@ use lib.ListN.{length}
 use borrow.Author.Tests.{ltb-true, ltb-false, lt-ltb, le-ltb}
 use Rattle.whole.specs.Every.{every}
 use Rattle.whole.specs.Places.{fromPlaces}
+use Rattle.whole.specs.Digits.{isDigit, digitOf, allDigits}
 use Rattle.whole.proofs.Bools.{both, joined, by-test}
 use Rattle.whole.proofs.Below.{below}
+use Rattle.whole.proofs.Digits.{digit-limits}
 use Rattle.kinds.specs.Bytes.{part}
 use Rattle.kinds.proofs.Bytes.{at}
 use Rattle.numbers.specs.Numbers.{number}
 use Rattle.position.specs.Inside.{figures, inPairs}
-use Rattle.position.specs.Text.{latitude, fullStop, isDigit, digitOf, allDigits, isAngle, inSixties}
+use Rattle.position.specs.Text.{latitude, fullStop, isAngle, inSixties}
 use Rattle.position.proofs.Bytes.{by-bytes, two-number, three-number}
-use Rattle.position.proofs.Digits.{digit-limits}
 use Rattle.position.proofs.Words.{Kind, figure, stop, is, form, byte, left, figure-of, small, same, same-is, word, high, low, word-left, each, all-say, of-kinds, sum-fits}
 
 abbrev octet : List ℕ → List (Kind × ℕ)

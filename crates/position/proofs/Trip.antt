@@ -11,14 +11,15 @@ use lib.Signed.{leZ}
 use lib.ListN.{length}
 use borrow.Author.Tests.{eq-eqb, ne-eqb, eqb-true, lt-ltb, leb-true, ltb-true}
 use Rattle.whole.specs.Places.{inPlaces}
+use Rattle.whole.specs.Digits.{digits, fromDigits, allDigits}
 use Rattle.whole.proofs.Bools.{both, either}
+use Rattle.whole.proofs.Digits.{all-digits, number-of, digits-of, number-below}
 use Rattle.kinds.specs.Answer.{gives}
 use Rattle.kinds.proofs.Answers.{passed, same-value}
 use Rattle.kinds.specs.Bytes.{part}
 use Rattle.kinds.proofs.Bytes.{length-part}
-use Rattle.position.specs.Text.{Coordinate, latitude, longitude, letterN, letterS, letterE, fullStop, places, textLength, hasText, isLetter, letterOf, formed, ms, digits, fromDigits, allDigits, degrees, minutes, seconds, stopByte, thousandths, letter, isAngle, inSixties, angle, byLetter, noZeroSouth, rightKinds, value, rightRanges, read, spelled, text}
+use Rattle.position.specs.Text.{Coordinate, latitude, longitude, letterN, letterS, letterE, fullStop, places, textLength, hasText, isLetter, letterOf, formed, ms, degrees, minutes, seconds, stopByte, thousandths, letter, isAngle, inSixties, angle, byLetter, noZeroSouth, rightKinds, value, rightRanges, read, spelled, text}
 use Rattle.position.proofs.Bytes.{by-bytes}
-use Rattle.position.proofs.Digits.{all-digits, number-of, digits-of, number-below}
 
 -- ---- the parts of a text of the form
 record Parts (k : Coordinate) (t : List ℕ) (d m s f b : ℕ) : Type 0 where

@@ -12,9 +12,10 @@ use lib.ListN.{length}
 use lib.Pow.{pow-add}
 use borrow.Author.Tests.{ltb-true, lt-ltb, eqb-true, eqb-false, eq-eqb, ne-eqb}
 use Rattle.whole.specs.Every.{every}
+use Rattle.whole.specs.Digits.{isDigit, digitOf}
 use Rattle.whole.proofs.Bools.{both, joined}
 use Rattle.whole.proofs.Below.{all-below, below}
-use Rattle.position.specs.Text.{fullStop, isDigit, digitOf}
+use Rattle.position.specs.Text.{fullStop}
 
 -- ---- what a byte must be
 pub data Kind : Type 0 where

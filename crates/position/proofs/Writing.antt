@@ -5,11 +5,12 @@ use Prim.Native.Nat.{ℕ}
 use lib.IntN.{ℤ}
 use lib.ListN.{length, take, drop}
 use Rattle.whole.specs.Places.{inPlaces}
+use Rattle.whole.specs.Digits.{digits}
 use Rattle.kinds.specs.Answer.{Answer, gives, refused, provided, placed, counted, lent}
 use Rattle.kinds.specs.Kinds.{tested}
 use Rattle.kinds.proofs.Answers.{passed, failed}
 use Rattle.kinds.proofs.Writing.{Written}
-use Rattle.position.specs.Text.{Coordinate, latitude, longitude, hasText, digits, spelled, text, write}
+use Rattle.position.specs.Text.{Coordinate, latitude, longitude, hasText, spelled, text, write}
 
 -- ---- the text of a number
 -- a latitude's text is a longitude's without the first digit

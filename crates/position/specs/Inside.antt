@@ -4,9 +4,10 @@ use mathlib.Core.Bool.{Bool, true, false}
 use mathlib.Core.List.{List}
 use Prim.Native.Nat.{ℕ, _+_, _*_, _/_, _%_, _<_}
 use lib.Bits.{bitXor}
+use Rattle.whole.specs.Digits.{fromDigits}
 use Rattle.kinds.specs.Bytes.{part}
 use Rattle.numbers.specs.Numbers.{number}
-use Rattle.position.specs.Text.{latitude, fromDigits, minutes, seconds, thousandths, isAngle, inSixties, angle}
+use Rattle.position.specs.Text.{latitude, minutes, seconds, thousandths, isAngle, inSixties, angle}
 
 -- what a number says: that bytes are not of their kind, that minutes or seconds are from 60 up, or the ms
 abbrev pub says : ℕ → Bool → Bool → ℕ → Type 0

@@ -1,13 +1,12 @@
 -- Document 01, 'Positions': a position as text. A latitude is `ddmmss.sssN` or `S`, a longitude `dddmmss.sssE`; what holds of
 -- both is said once.
 use mathlib.Core.Bool.{Bool, _&&_, _||_, not, cond}
-use mathlib.Core.List.{List, [], _∷_, _++_, map}
-use Prim.Native.Nat.{ℕ, _+_, _-_, _*_, _/_, _%_}
-use lib.Dec.{eqb, leb, ltb}
+use mathlib.Core.List.{List, [], _∷_, _++_}
+use Prim.Native.Nat.{ℕ, _+_, _*_, _/_, _%_}
+use lib.Dec.{eqb, ltb}
 use lib.IntN.{ℤ, pos, negsuc, negℤ, natAbs}
 use lib.ListN.{length, getD}
-use Rattle.whole.specs.Every.{every}
-use Rattle.whole.specs.Places.{fromPlaces, inPlaces}
+use Rattle.whole.specs.Digits.{allDigits, fromDigits, digits}
 use Rattle.kinds.specs.Answer.{Answer, gives, Test, _else_, inOrder, placed}
 use Rattle.kinds.specs.Bytes.{part}
 use Rattle.kinds.specs.Kinds.{isLatitude, isLongitude}
@@ -50,27 +49,6 @@ abbrev pub letterOf : Coordinate → ℤ → ℕ
 letterOf latitude (pos m) = letterN
 letterOf latitude (negsuc m) = letterS
 letterOf longitude x = letterE
-
--- ---- digits: 0 to 9 are the bytes 48 to 57
-abbrev pub isDigit : ℕ → Bool
-isDigit b = leb 48 b && leb b 57
-
-unfoldable pub digitOf : ℕ → ℕ
-digitOf b = b - 48
-
-abbrev pub byteOf : ℕ → ℕ
-byteOf d = 48 + d
-
-unfoldable pub allDigits : List ℕ → Bool
-allDigits t = every isDigit t
-
--- the number that digits say, the first counting most
-unfoldable pub fromDigits : List ℕ → ℕ
-fromDigits t = fromPlaces 10 (map digitOf t)
-
--- n in so many digits
-unfoldable pub digits : ℕ → ℕ → List ℕ
-digits w n = map byteOf (inPlaces 10 w n)
 
 -- ---- the form of a text
 -- degrees, minutes, seconds and thousandths, each in its digits, and a letter

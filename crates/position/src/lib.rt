@@ -14,11 +14,12 @@ ghost use Prim.Native.Nat.{_+_, _%_, _<_, _≤_};
 ghost use lib.Dec.{eqb};
 ghost use lib.IntN.{pos, negℤ};
 ghost use lib.ListN.{length};
+ghost use Rattle.whole.specs.Digits.{isDigit, digitOf, fromDigits};
 ghost use Rattle.kinds.specs.Answer.{provided, numberOf, counted, lent};
 ghost use Rattle.kinds.specs.Cases.{localLatitude, localLongitude, written};
 ghost use Rattle.kinds.specs.Kinds.{isLatitude, tested};
 ghost use Rattle.position.specs.Inside.{figures, inPairs, saysAngle};
-ghost use Rattle.position.specs.Text.{latitude, longitude, isDigit, digitOf, fromDigits, degrees, isAngle, inSixties, angle, read, spelled, write};
+ghost use Rattle.position.specs.Text.{latitude, longitude, degrees, isAngle, inSixties, angle, read, spelled, write};
 
 // Reads the 11 bytes `ddmmss.sssN` or `S` into ms, north positive: `900000.000N` is 324000000. Refused: 1 another length, 2 a
 // byte that is not of its kind, 3 minutes or seconds from 60 up, past 90°, or S after zero.

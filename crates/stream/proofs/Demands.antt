@@ -10,8 +10,9 @@ use lib.Seq.{take-take, take-all, take-nil, append-snoc}
 use Rattle.whole.specs.Every.{every}
 use Rattle.whole.specs.Places.{fromPlaces, inPlaces}
 use Rattle.whole.specs.Round.{roundDiv}
+use Rattle.whole.specs.Digits.{digitOf, allDigits, fromDigits, digits}
 use Rattle.kinds.specs.Answer.{gives, refused}
-use Rattle.position.specs.Text.{digitOf, allDigits, fromDigits, digits, isAngle, inSixties, angle}
+use Rattle.position.specs.Text.{isAngle, inSixties, angle}
 use Rattle.equation.specs.Powers.{power, powersOf}
 use Rattle.equation.specs.Equation.{sum}
 use Rattle.decimal.specs.Decimal.{unpadded, decimal, printedNumber}

@@ -10,10 +10,10 @@ use lib.IntN.{ℤ}
 use lib.ListN.{length, take, drop, length-append}
 use lib.Seq.{take-all, take-length, take-take, length-take-le}
 use borrow.Author.Tests.{ltb-true, leb-true, leb-false, eqb-true, eqb-false, le-leb, ne-eqb}
+use Rattle.whole.specs.Digits.{byteOf}
 use Rattle.whole.proofs.Bools.{by-test}
 use Rattle.kinds.specs.Answer.{Answer, gives, refused, placed, following, counted, lent}
 use Rattle.kinds.proofs.Answers.{not-both, same-value, first-failed, first-number}
-use Rattle.position.specs.Text.{byteOf}
 use Rattle.tables.specs.Page.{Family}
 use Rattle.line.specs.Line.{lineFeed, answerLine, tests, answerTo, lineOf, unbroken}
 use Rattle.line.proofs.Printing.{answer-line-short, answer-line-ends}

@@ -5,8 +5,8 @@ use Prim.Native.Nat.{ℕ, _-_, _/_, min}
 use lib.Dec.{eqb}
 use lib.IntN.{ℤ}
 use lib.ListN.{length, take, replicate}
+use Rattle.whole.specs.Digits.{byteOf}
 use Rattle.kinds.specs.Answer.{Answer, gives, refused}
-use Rattle.position.specs.Text.{byteOf}
 use Rattle.tables.specs.Page.{Family}
 use Rattle.line.specs.Line.{space, lineFeed, answerLine, answerTo}
 use Rattle.stream.specs.declared.Begun.{Begun}

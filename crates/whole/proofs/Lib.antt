@@ -19,5 +19,7 @@ pub mod Below
 pub mod Every
 -- a number in places of a base, and back
 pub mod Places
+-- a number in digits, and back
+pub mod Digits
 -- what document 01 asks of every rounding
 pub mod Demands

@@ -1,3 +1,4 @@
 pub mod Round
 pub mod Every
 pub mod Places
+pub mod Digits

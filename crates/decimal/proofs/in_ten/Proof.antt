@@ -1,7 +1,7 @@
 -- `decimal::in_ten` meets its contract. Assumes nothing.
 use native.Mathlib.Nat.{div-one}
 use Rattle.whole.specs.Places.{inPlaces}
-use Rattle.position.specs.Text.{digits}
+use Rattle.whole.specs.Digits.{digits}
 use borrow.Author.Needs.{needs}
 use Rattle.decimal.proofs.in_ten.Statement.{statement}
 use Rattle.decimal.proofs.in_ten.Tie as tie

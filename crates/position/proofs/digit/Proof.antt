@@ -1,8 +1,8 @@
 -- `position::digit` meets its contract. Assumes nothing.
 use native.Mathlib.Omega.{arith}
 use borrow.Author.Needs.{needs}
-use Rattle.position.specs.Text.{digitOf}
-use Rattle.position.proofs.Digits.{digit-limits}
+use Rattle.whole.specs.Digits.{digitOf}
+use Rattle.whole.proofs.Digits.{digit-limits}
 use Rattle.position.proofs.digit.Statement.{statement}
 use Rattle.position.proofs.digit.Tie as tie
 

@@ -10,12 +10,13 @@ use lib.IntN.{ℤ, pos}
 use lib.ListN.{length}
 use mir.Syntax.{w64}
 use mir.Val.{hbits}
+use Rattle.whole.specs.Digits.{isDigit}
 use Rattle.kinds.specs.Answer.{refused}
 use Rattle.kinds.specs.Kinds.{isLongitude, tested}
 use Rattle.whole.proofs.Bools.{both, joined}
 use Rattle.whole.proofs.Words.{from-unsigned}
 use Rattle.kinds.proofs.Bytes.{at}
-use Rattle.position.specs.Text.{latitude, longitude, letterE, letter, isLetter, isDigit, isAngle, inSixties, angle}
+use Rattle.position.specs.Text.{latitude, longitude, letterE, letter, isLetter, isAngle, inSixties, angle}
 use Rattle.position.proofs.Bytes.{rest, longitude-is-angle, longitude-in-sixties, longitude-angle}
 use Rattle.position.proofs.Reading.{two-fail, wrong-length, wrong-kind, not-south, refused-angle, Said, said}
 use Rattle.position.proofs.read_longitude.Statement.{statement}

@@ -2,7 +2,8 @@
 use native.Mathlib.Nat.{div-one}
 use borrow.Author.Needs.{needs}
 use Rattle.whole.specs.Places.{inPlaces}
-use Rattle.position.specs.Text.{digits, spelled}
+use Rattle.whole.specs.Digits.{digits}
+use Rattle.position.specs.Text.{spelled}
 use Rattle.position.proofs.spelled.Statement.{statement}
 use Rattle.position.proofs.spelled.Tie as tie
 

@@ -8,11 +8,11 @@ use native.Mathlib.Omega.{arith}
 use lib.Dec.{leb, ltb}
 use lib.ListN.{length, length-map}
 use borrow.Author.Tests.{le-leb, leb-true, lt-ltb, ltb-true}
 use Rattle.whole.specs.Every.{every}
 use Rattle.whole.specs.Places.{inPlaces}
+use Rattle.whole.specs.Digits.{isDigit, digitOf, byteOf, allDigits, fromDigits, digits}
 use Rattle.whole.proofs.Bools.{both, joined}
 use Rattle.whole.proofs.Places as places
-use Rattle.position.specs.Text.{isDigit, digitOf, byteOf, allDigits, fromDigits, digits}
 
 -- ---- one digit, as a byte and back
 abbrev below-ten : ℕ → Bool
