@@ -6,7 +6,6 @@ use Prim.Native.Nat.{ℕ, zero, suc, _+_, _-_, _*_, _/_, _%_, _<_, _≤_, suc-le
 use native.Mathlib.Nat.{le-antisymm, lt-of-mul-lt-mul-left, lt-of-mul-lt-mul-right, le-div-iff-mul-le, div-add-mod, mod-lt, div-eq-of-lt-le}
 use native.Mathlib.Omega.{arith}
 use lib.Dec.{T, leb, leb→le, le→leb}
-
 use lib.IntN.{ℤ, pos, negsuc, negℤ, natAbs, _-ℤ_, _*ℤ_, negℤ-negℤ, -ℤ-+ℤ-cancel}
 use lib.Signed.{nonNeg, ltZ, leZ, _≤ℤ_, leZ-yes}
 use Rattle.whole.specs.Round.{roundHalfUp, roundDiv}
