@@ -1,10 +1,11 @@
 -- Document 01, 'The six areas': the six pages, how many terms the equations have, how the tables stand, and where the areas end.
-use mathlib.Core.Bool.{Bool, true, not, _&&_, _||_}
+use mathlib.Core.Bool.{Bool, true, cond, not, _&&_, _||_}
 use mathlib.Core.List.{List, [], _∷_, Perm}
 use mathlib.Core.Path.{_≡_}
 use Prim.Native.Nat.{ℕ, _+_}
 use lib.Dec.{eqb, ltb}
-use lib.IntN.{pos, _+ℤ_, _-ℤ_}
+use lib.IntN.{ℤ, pos, _+ℤ_, _-ℤ_}
+use lib.Signed.{leZ}
 use lib.ListN.{length}
 use Rattle.kinds.specs.Kinds.{isPosition}
 use Rattle.equation.specs.Equation.{Term, term, amongTen}
@@ -46,13 +47,20 @@ stands (s ∷ t ∷ ts) = amongTen s && (before s t && stands (t ∷ ts))
 abbrev pub Reordered : Family Equation → Family Equation → Type 0
 Reordered = Paired (λ e f. Perm (e .terms) (f .terms) × (e .divisor ≡ f .divisor))
 
+-- the position of an end: from 0° up, where it is negative
+abbrev pub positioned : ℤ → ℤ
+positioned end = cond (leZ (pos 0) end) end (end +ℤ pos 1296000000)
+
 -- two corners of the area are in it, and what is 1 ms outside an end is not
 abbrev pub ends : Page → Bool
 ends page =
-    inArea page (page .south) (page .west) && inArea page (page .north) (page .east)
-    && not (inArea page (page .south -ℤ pos 1) (page .west)) && not (inArea page (page .north +ℤ pos 1) (page .east))
-    && not (inArea page (page .south) (page .west -ℤ pos 1)) && not (inArea page (page .north) (page .east +ℤ pos 1))
+    holds (page .south) (page .west) && holds (page .north) (page .east)
+    && not (holds (page .south -ℤ pos 1) (page .west)) && not (holds (page .north +ℤ pos 1) (page .east))
+    && not (holds (page .south) (page .west -ℤ pos 1)) && not (holds (page .north) (page .east +ℤ pos 1))
+  where
+    holds : ℤ → ℤ → Bool
+    holds latitude longitude = inArea page latitude (positioned longitude)
 
 -- its ends are latitudes and longitudes
 abbrev pub areaInRange : Page → Bool
-areaInRange page = isPosition (page .south) (page .west) && isPosition (page .north) (page .east)
+areaInRange page = isPosition (page .south) (positioned (page .west)) && isPosition (page .north) (positioned (page .east))

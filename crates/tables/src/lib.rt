@@ -31,6 +31,7 @@ pub enum Datum {
 }
 
 impl Datum {
+    // All that is particular to it but its tables.
     pub fn frame(self) -> Frame
         ensures { λ r. ⌜ r ≡ frameOf (datumPage self) ⌝ }
     {
@@ -60,7 +61,7 @@ impl Datum {
     }
 }
 
-// The values of a datum: dLat, dLon and dH, or N and two zeros.
+// The values of a datum: dLat, dLon and dH; or, of a geoid datum, N and two zeros.
 pub struct Values {
     pub geoid: bool,
     pub first: i32,
@@ -68,7 +69,8 @@ pub struct Values {
     pub third: i32,
 }
 
-// What is particular to a datum but its tables: the family, how u and v come of a position, and the ends of the area in ms.
+// What is particular to a datum but its tables: whether it has geoid heights and no shifts, how u and v come of a position,
+// and the ends of the area in ms, of which one west of Greenwich may be negative.
 pub struct Frame {
     pub geoid: bool,
     pub u: Axis,
