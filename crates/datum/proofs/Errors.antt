@@ -8,12 +8,11 @@ use native.Mathlib.Nat.{mul-pos}
 use native.Mathlib.Omega.{arith}
 use lib.Dec.{T, eqb, eqb→eq, leb, leb→le, ltb, ltb→lt, lit<, lit≤}
 use lib.IntN.{ℤ, pos, natAbs, _-ℤ_, _*ℤ_}
-use lib.ListN.{getD, drop}
+use lib.ListN.{getD}
 use mir.Facts.{and-yes}
 use Rattle.whole.specs.Round.{roundDiv, scale}
 use Rattle.whole.specs.Every.{every}
 use Rattle.whole.proofs.Bools.{three}
-use Rattle.whole.proofs.Every.{every-place}
 use Rattle.equation.specs.Equation.{Term, equationOf}
 use Rattle.equation.specs.Exact.{Fraction, _over_, whole, _times_, _to-the_, exactOf, Within}
 use Rattle.equation.proofs.Fractions.{within-same, within-wider, within-both, same-scaled, exact-proper, reaches, common, over-common}
@@ -23,7 +22,7 @@ use Rattle.tables.specs.Cyprus.{cyprus}
 use Rattle.tables.specs.Tables.{pages}
 use Rattle.tables.specs.Rule.{longitudeOn, inBox, powersU, powersV, worked}
 use Rattle.tables.proofs.Families.{each-by, each-of, paired, shift-so, geoid-so}
-use Rattle.tables.proofs.Limits.{page-keeps, most-u, most-v, u-size, v-size}
+use Rattle.tables.proofs.Limits.{each-row, page-keeps, most-u, most-v, u-size, v-size}
 use Rattle.tables.proofs.Bounds.{fine, within-h, equation-bounded, page-bounded}
 use Rattle.datum.specs.Point.{isCode, pageOf}
 use Rattle.datum.specs.Exact.{exactAlong, exactAt, exact, atCentre, AllNear, AllWithin, demanded}
@@ -75,10 +74,10 @@ abbrev page-demanded : (Family ℕ → Family ℕ) → Page → Bool
 page-demanded made page = no-narrower 1000 1 (made (ofEach (λ e. e .bound) (page .equations))) (demanded (page .equations))
 
 pub row-demanded : (n : ℕ) → T (page-demanded (λ bounds. bounds) (getD pages n cyprus))
-row-demanded = every-place (page-demanded (λ bounds. bounds)) cyprus (drop 1 pages) tt
+row-demanded = each-row (page-demanded (λ bounds. bounds)) tt
 
 pub row-float-demanded : (n : ℕ) → T (page-demanded (ofEach (λ h. h + 1)) (getD pages n cyprus))
-row-float-demanded = every-place (page-demanded (ofEach (λ h. h + 1))) cyprus (drop 1 pages) tt
+row-float-demanded = each-row (page-demanded (ofEach (λ h. h + 1))) tt
 
 -- ---- over one power of the bottom of U and V
 abbrev Over : ℕ → Fraction → Type 0
@@ -92,7 +91,7 @@ abbrev page-over : Page → Bool
 page-over page = eqb (page .u .divisor) 3600000 && (eqb (page .v .divisor) 3600000 && each reached (page .equations))
 
 pub row-over : (n : ℕ) → T (page-over (getD pages n cyprus))
-row-over = every-place page-over cyprus (drop 1 pages) tt
+row-over = each-row page-over tt
 
 by-number : (ts : List Term) (a b : ℤ) {m k d : ℕ} → m ≡ 3600000 → k ≡ 3600000 → d ≡ scale → T (reaches 18 ts) → Over (360000000000000 ^ 18) (exactOf ts (a over (m * scale)) (b over (k * scale)) times (pos scale over d))
 by-number ts a b hm hk hd t =

@@ -1,7 +1,8 @@
-// The kinds of quantity: latitude and longitude on the local datum and on WGS 84, the shift of an angle, and height; why a
-// call is refused; and a text put into a lent buffer. Outside this crate a kind is made by `new`, which tests a raw number (a shift and a height also by `of`,
-// from 4 bytes, any of which are one; a WGS 84 position also by `shifted`, which does not test), and read by a method: code that
-// takes one kind, or a bare number, for another kind does not build.
+// The kinds of quantity: latitude and longitude on the local datum, each and as a position, and on WGS 84, the shift of an
+// angle, and height; why a call is refused; and a text put into a lent buffer. Outside this crate a kind is made by `new`, which
+// tests a raw number (a shift and a height also by `of`, from 4 bytes, any of which are one; a WGS 84 position also by
+// `shifted`, which does not test), and read by a method: code that takes one kind, or a bare number, for another kind does not
+// build.
 ghost use mathlib.Core.Path.{_≡_};
 ghost use lib.ListN.{length};
 ghost use Rattle.kinds.specs.Answer.{gives, provided, numberOf, placed, counted, lent};

@@ -5,18 +5,17 @@ use mathlib.Core.Bool.{Bool, true, false, not, _&&_}
 use Prim.Native.Nat.{ℕ, _-_, _≤_}
 use native.Mathlib.Omega.{arith}
 use lib.Dec.{T, leb}
-use lib.ListN.{getD, drop}
+use lib.ListN.{getD}
 use borrow.Author.Tests.{leb-true, leb-false}
 use mir.Facts.{and-yes}
 use Rattle.whole.specs.Round.{roundDiv, scale}
 use Rattle.whole.specs.Every.{every}
-use Rattle.whole.proofs.Every.{every-place}
 use Rattle.equation.proofs.Errors.{bounded, bounded-wider}
 use Rattle.tables.specs.Page.{Page, Equation, each, Each}
 use Rattle.tables.specs.Cyprus.{cyprus}
 use Rattle.tables.specs.Tables.{pages}
 use Rattle.tables.proofs.Families.{each-by}
-use Rattle.tables.proofs.Limits.{most-u, most-v}
+use Rattle.tables.proofs.Limits.{each-row, most-u, most-v}
 
 -- ---- the test of a page: each equation with its bound, in thousandths of a unit, and with no smaller one
 -- errors on the way are counted in millionths
@@ -37,7 +36,7 @@ unfolding roundDiv
 all-bounded = tt
 
 pub row-bounded : (n : ℕ) → T (page-bounded (getD pages n cyprus))
-row-bounded = every-place page-bounded cyprus (drop 1 pages) all-bounded
+row-bounded = each-row page-bounded all-bounded
 
 -- with no smaller bound than the page's does the test hold
 pub smallest : (page : Page) → T (page-bounded page) → Each (λ e. (h : ℕ) → T (within-h page h e) → e .bound ≤ h) (page .equations)

@@ -27,6 +27,10 @@ use Rattle.tables.specs.Tables.{pages}
 use Rattle.tables.specs.Inside.{axisOf, onAxis, Fits, AllFit, Close}
 use Rattle.tables.proofs.Families.{each-by}
 
+-- ---- a test of every page shows of the page in each row
+pub each-row : (test : Page → Bool) → T (every test pages) → (n : ℕ) → T (test (getD pages n cyprus))
+each-row test = every-place test cyprus (drop 1 pages)
+
 -- ---- the test
 -- of an axis: the code's divisor, and numbers so small that 64 bits hold what is divided
 abbrev axis-keeps : Axis → Bool
@@ -57,7 +61,7 @@ unfolding roundDiv
 all-keep = tt
 
 pub row-keeps : (n : ℕ) → T (page-keeps (getD pages n cyprus))
-row-keeps = every-place page-keeps cyprus (drop 1 pages) all-keep
+row-keeps = each-row page-keeps all-keep
 
 -- ---- what it shows of an axis
 module _ (axis : Axis) (h : T (axis-keeps axis)) where

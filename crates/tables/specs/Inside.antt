@@ -6,7 +6,6 @@ use mathlib.Core.List.{List}
 use Prim.Native.Nat.{ℕ, _≤_}
 use lib.IntN.{ℤ, pos, natAbs, _-ℤ_, _*ℤ_}
 use lib.ListN.{getD}
-use lib.Signed.{leZ}
 use mir.Syntax.{w32}
 use mir.Val.{SFits}
 use Rattle.whole.specs.Round.{roundDiv}
@@ -48,10 +47,6 @@ frameOf page = record {
   west = page .west;
   east = page .east;
 }
-
--- a longitude as the frame's page counts it
-abbrev pub countedFrom : ℤ → ℤ → ℤ
-countedFrom west longitude = cond (leZ west (longitude -ℤ pos 1296000000)) (longitude -ℤ pos 1296000000) longitude
 
 -- u or v by the frame's axis
 abbrev pub onAxis : Axis → ℤ → ℤ

@@ -10,13 +10,24 @@ use Rattle.equation.specs.Equation.{equationOf}
 use Rattle.tables.specs.Page.{Page, Axis, Equation, Family, ofEach}
 
 -- ---- the area
--- a longitude as the page counts it: less a turn, where it is not west of the west end even then
-abbrev pub longitudeOn : Page → ℤ → ℤ
-longitudeOn page longitude = cond (leZ (page .west) (longitude -ℤ pos 1296000000)) (longitude -ℤ pos 1296000000) longitude
+-- 360°
+abbrev pub turn : ℤ
+turn = pos 1296000000
 
--- both ends belong to the box
+-- a longitude as it is counted from a west end: less a turn, where it is not west of that end even then
+abbrev pub countedFrom : ℤ → ℤ → ℤ
+countedFrom west longitude = cond (leZ west (longitude -ℤ turn)) (longitude -ℤ turn) longitude
+
+abbrev pub longitudeOn : Page → ℤ → ℤ
+longitudeOn page longitude = countedFrom (page .west) longitude
+
+-- from south to north, and from west to east as counted: both ends belong to it
+abbrev pub enclosed : ℤ → ℤ → ℤ → ℤ → ℤ → ℤ → Bool
+enclosed south north west east latitude longitude = within south north latitude && within west east (countedFrom west longitude)
+
+-- the box of a page
 abbrev pub inBox : Page → ℤ → ℤ → Bool
-inBox page latitude longitude = within (page .south) (page .north) latitude && within (page .west) (page .east) (longitudeOn page longitude)
+inBox page latitude longitude = enclosed (page .south) (page .north) (page .west) (page .east) latitude longitude
 
 -- the area: the positions of the box
 abbrev pub inArea : Page → ℤ → ℤ → Bool

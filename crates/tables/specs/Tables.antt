@@ -10,7 +10,7 @@ use lib.ListN.{length}
 use Rattle.kinds.specs.Kinds.{isPosition}
 use Rattle.equation.specs.Equation.{Term, term, amongTen}
 use Rattle.tables.specs.Page.{Page, Equation, Family, shift, geoid, ofEach, Paired}
-use Rattle.tables.specs.Rule.{inArea}
+use Rattle.tables.specs.Rule.{turn, inArea}
 use Rattle.tables.specs.Cyprus.{cyprus}
 use Rattle.tables.specs.Minna.{minna}
 use Rattle.tables.specs.Alaska.{alaska}
@@ -49,7 +49,7 @@ Reordered = Paired (λ e f. Perm (e .terms) (f .terms) × (e .divisor ≡ f .div
 
 -- the position of an end: from 0° up, where it is negative
 abbrev pub positioned : ℤ → ℤ
-positioned end = cond (leZ (pos 0) end) end (end +ℤ pos 1296000000)
+positioned end = cond (leZ (pos 0) end) end (end +ℤ turn)
 
 -- two corners of the area are in it, and what is 1 ms outside an end is not
 abbrev pub ends : Page → Bool

@@ -12,14 +12,12 @@ use kinds::LocalPosition;
 use kinds::within;
 use whole::Parts;
 ghost use mathlib.Core.Path.{_≡_};
-ghost use mathlib.Core.Bool.{_&&_};
 ghost use Prim.Native.Nat.{_≤_};
 ghost use lib.IntN.{natAbs};
 ghost use lib.ListN.{length};
-ghost use Rattle.kinds.specs.Kinds.{within};
 ghost use Rattle.equation.specs.Equation.{terms, equationOf};
-ghost use Rattle.tables.specs.Rule.{evaluated};
-ghost use Rattle.tables.specs.Inside.{datumPage, frameOf, countedFrom, onAxis, Say, Fits, AllFit, Close};
+ghost use Rattle.tables.specs.Rule.{countedFrom, enclosed, evaluated};
+ghost use Rattle.tables.specs.Inside.{datumPage, frameOf, onAxis, Say, Fits, AllFit, Close};
 
 pub enum Datum {
     Cyprus,
@@ -84,7 +82,7 @@ pub struct Frame {
 impl Frame {
     // Whether a position is in the area, both ends in.
     pub fn holds(self, position: LocalPosition) -> bool
-        ensures { λ r. ⌜ r ≡ within (self .south) (self .north) (position .latitude .0) && within (self .west) (self .east) (countedFrom (self .west) (position .longitude .0)) ⌝ }
+        ensures { λ r. ⌜ r ≡ enclosed (self .south) (self .north) (self .west) (self .east) (position .latitude .0) (position .longitude .0) ⌝ }
     {
         let latitude = position.latitude;
         let longitude = self.longitude(position);

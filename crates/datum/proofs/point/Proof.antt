@@ -1,20 +1,20 @@
 -- `datum::point` meets its contract. Assumes nothing.
 use mathlib.Core.Path.{_≡_, sym, ap, _∙_, subst, subst₂}
-use mathlib.Core.Bool.{Bool, true, _&&_}
+use mathlib.Core.Bool.{Bool, true}
 use Prim.Native.Nat.{_≤_}
 use lib.Dec.{T}
 use lib.IntN.{ℤ, natAbs}
 use Rattle.whole.specs.Round.{scale}
 use Rattle.whole.proofs.Words.{of}
 use Rattle.kinds.specs.Answer.{Answer, gives, provided}
-use Rattle.kinds.specs.Kinds.{within, isPosition}
+use Rattle.kinds.specs.Kinds.{isPosition}
 use Rattle.kinds.specs.Cases.{localPosition}
 use Rattle.kinds.specs.declared.LocalPosition.{LocalPosition}
 use Rattle.kinds.proofs.Answers.{passed, failed, same-value}
 use Rattle.equation.specs.Powers.{powersOf}
 use Rattle.tables.specs.Page.{Page}
-use Rattle.tables.specs.Rule.{inBox, longitudeOn, along, evaluated, powersU, powersV}
-use Rattle.tables.specs.Inside.{rowOf, datumPage, frameOf, countedFrom, onAxis, AllFit, Close}
+use Rattle.tables.specs.Rule.{countedFrom, enclosed, inBox, longitudeOn, along, evaluated, powersU, powersV}
+use Rattle.tables.specs.Inside.{rowOf, datumPage, frameOf, onAxis, AllFit, Close}
 use Rattle.tables.specs.declared.Frame.{Frame}
 use Rattle.tables.proofs.Limits.{page-keeps, row-keeps, close-u, close-v, u-coded, v-coded, u-small, v-small, all-fit}
 use Rattle.datum.proofs.Points.{out-of-range, out-of-box, in-box, said}
@@ -87,7 +87,7 @@ module _ (c : tie.After-holds) where
 
   box : {b : Bool} → c .holds .result ≡ b → inBox (page n) (latitude n) (longitude n) ≡ b
   box e =
-      sym (c .holds .ensures ∙ (λ i. within (frame i .south) (frame i .north) (north i) && within (frame i .west) (frame i .east) (countedFrom (frame i .west) (east i))))
+      sym (c .holds .ensures ∙ (λ i. enclosed (frame i .south) (frame i .north) (frame i .west) (frame i .east) (north i) (east i)))
       ∙ e
 
 -- it does: u, v and their powers

@@ -9,7 +9,7 @@ use mir.Syntax.{w32, w64}
 use mir.Val.{SFits, toZ, ofZ}
 use Rattle.whole.proofs.Sizes.{abs--}
 use Rattle.whole.proofs.Words.{Holds, wr, of, lit, asks, gives, tested, widened, widened-asks, small, sized}
-use Rattle.tables.specs.Inside.{countedFrom}
+use Rattle.tables.specs.Rule.{countedFrom}
 use borrow.Author.Needs.{needs}
 use Rattle.tables.proofs.Frame.longitude.Statement.{statement}
 use Rattle.tables.proofs.Frame.longitude.Tie as tie
