@@ -1,7 +1,6 @@
 -- The limits of a page: what one computed test shows of every point of its box. Assumes nothing.
 use mathlib.Core.Path.{_≡_, sym, ap, subst}
 use mathlib.Core.Bool.{Bool, true, _&&_}
-use mathlib.Core.List.{List}
 use Prim.Native.Nat.{ℕ, _<_, _≤_, max}
 use native.Mathlib.Nat.{le-trans}
 use lib.Dec.{T, leb, leb→le, ltb, ltb→lt, eqb, eqb→eq, lit<}
@@ -9,7 +8,7 @@ use lib.ListN.{getD, drop}
 use lib.IntN.{ℤ, natAbs}
 use lib.Signed.{leZ, _≤ℤ_, leZ-yes}
 use mir.Facts.{and-yes}
-use Rattle.whole.specs.Round.{roundDiv, scale}
+use Rattle.whole.specs.Round.{roundDiv}
 use Rattle.whole.specs.Every.{every}
 use Rattle.whole.proofs.Bools.{both, three}
 use Rattle.whole.proofs.Every.{every-place}
@@ -17,10 +16,9 @@ use Rattle.whole.proofs.Orders.{multiple-order, between-size}
 use Rattle.whole.proofs.Words.{small}
 use Rattle.whole.proofs.Demands.{in-order}
 use Rattle.kinds.specs.Kinds.{within}
-use Rattle.equation.specs.Powers.{powersOf}
 use Rattle.equation.specs.Equation.{equationOf}
 use Rattle.equation.proofs.Limits.{keeps, room, in-four-bytes}
-use Rattle.tables.specs.Page.{Page, Axis, Equation, Family, each}
+use Rattle.tables.specs.Page.{Page, Axis, Equation, each}
 use Rattle.tables.specs.Cyprus.{cyprus}
 use Rattle.tables.specs.Rule.{longitudeOn, inBox, along, powersU, powersV}
 use Rattle.tables.specs.Tables.{pages}

@@ -4,7 +4,7 @@ use mathlib.Core.Bool.{cond}
 use lib.IntN.{ℤ}
 use Rattle.whole.proofs.Words.{of}
 use Rattle.kinds.specs.Answer.{gives}
-use Rattle.tables.specs.Page.{Page, shift, geoid, isEither}
+use Rattle.tables.specs.Page.{shift, geoid, isEither}
 use Rattle.tables.specs.Inside.{datumPage}
 use Rattle.datum.specs.Point.{pointOf, answerOf}
 use Rattle.datum.specs.Inside.{datumAnswer, valuesAnswer}

@@ -1,6 +1,6 @@
 -- `datum::coded` meets its contract: the datums of the code stand in the rows of their pages. Assumes nothing.
 use mathlib.Core.Path.{_≡_, sym, ap, _∙_, subst}
-use mathlib.Core.Bool.{Bool, true}
+use mathlib.Core.Bool.{Bool}
 use mathlib.Core.List.{List, [], _∷_}
 use Prim.Native.Nat.{ℕ, suc, _-_, _<_}
 use native.Mathlib.Omega.{arith}
@@ -14,7 +14,6 @@ use Rattle.whole.proofs.Ring.{pos-sub-≤}
 use Rattle.whole.proofs.Words.{Holds, wr, of, lit, to, asks, gives, to-unsigned, to-unsigned-asks}
 use Rattle.kinds.specs.Answer as said
 use Rattle.kinds.specs.Answer.{provided}
-use Rattle.tables.specs.Page.{Page}
 use Rattle.tables.specs.Cyprus.{cyprus}
 use Rattle.tables.specs.Tables.{pages}
 use Rattle.tables.specs.Inside.{rowOf, datumPage}

@@ -1,6 +1,6 @@
 -- `datum::geoid` meets its contract. Assumes nothing.
 use mathlib.Core.Path.{_≡_, sym, ap, _∙_}
-use mathlib.Core.Bool.{true, false, not}
+use mathlib.Core.Bool.{true, not}
 use lib.IntN.{ℤ}
 use Rattle.whole.proofs.Words.{of}
 use Rattle.kinds.specs.Answer.{gives}

@@ -1,6 +1,6 @@
 -- `datum::shift` meets its contract. Assumes nothing.
 use mathlib.Core.Path.{_≡_, sym, ap, _∙_}
-use mathlib.Core.Bool.{true, false}
+use mathlib.Core.Bool.{false}
 use Rattle.kinds.specs.Answer.{gives}
 use Rattle.tables.specs.Page.{isShift}
 use Rattle.datum.specs.Point.{shiftOf}
