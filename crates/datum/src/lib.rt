@@ -1,5 +1,4 @@
 // The six codes: the shift or the geoid height of a point, by the tables of its datum.
-use equation::powers;
 use kinds::AngleShift;
 use kinds::Height;
 use kinds::HeightAnswer;
@@ -79,15 +78,16 @@ pub fn answer(code: i64, latitude: i64, longitude: i64) -> PointAnswer
     let DatumAnswer::Gives(datum) = coded(code) else {
         return PointAnswer::Refused(Refusal::Code);
     };
-    match point(datum, latitude, longitude) {
-        ValuesAnswer::Gives(values) => {
+    match located(datum, latitude, longitude) {
+        LocalPositionAnswer::Gives(position) => {
+            let values = datum.values(position);
             if values.geoid {
                 PointAnswer::Geoid(Height::of(values.first))
             } else {
                 PointAnswer::Shift(Shifts::of(values))
             }
         }
-        ValuesAnswer::Refused(why) => PointAnswer::Refused(why),
+        LocalPositionAnswer::Refused(why) => PointAnswer::Refused(why),
     }
 }
 
@@ -99,10 +99,12 @@ fn asked(geoid: bool, code: i64, latitude: i64, longitude: i64) -> ValuesAnswer
         return ValuesAnswer::Refused(Refusal::Code);
     };
     let frame = datum.frame();
-    if frame.geoid == geoid {
-        point(datum, latitude, longitude)
-    } else {
-        ValuesAnswer::Refused(Refusal::Family)
+    if frame.geoid != geoid {
+        return ValuesAnswer::Refused(Refusal::Family);
+    }
+    match located(datum, latitude, longitude) {
+        LocalPositionAnswer::Gives(position) => ValuesAnswer::Gives(datum.values(position)),
+        LocalPositionAnswer::Refused(why) => ValuesAnswer::Refused(why),
     }
 }
 
@@ -139,20 +141,18 @@ enum ValuesAnswer {
     Refused(Refusal),
 }
 
-// What a datum gives for a point; refused with 3 out of range, and with 6 outside the area.
-fn point(datum: Datum, latitude: i64, longitude: i64) -> ValuesAnswer
-    ensures { λ r. ⌜ valuesAnswer r ≡ pointOf (datumPage datum) latitude longitude ⌝ }
+// A point as a position of a datum's area; refused with 3 out of range, and with 6 outside the area. It stands apart from the
+// work on the equations, which two functions call: so that the compiler leaves that work where it is, and a refusal is short.
+fn located(datum: Datum, latitude: i64, longitude: i64) -> LocalPositionAnswer
+    ensures { λ r. ⌜ localPosition r ≡ located (datumPage datum) latitude longitude ⌝ }
 {
     let LocalPositionAnswer::Gives(position) = LocalPosition::new(latitude, longitude) else {
-        return ValuesAnswer::Refused(Refusal::Range);
+        return LocalPositionAnswer::Refused(Refusal::Range);
     };
     let frame = datum.frame();
     if frame.holds(position) {
-        let place = frame.place(position);
-        let pu = powers(place.u);
-        let pv = powers(place.v);
-        ValuesAnswer::Gives(datum.values(pu, pv))
+        LocalPositionAnswer::Gives(position)
     } else {
-        ValuesAnswer::Refused(Refusal::Area)
+        LocalPositionAnswer::Refused(Refusal::Area)
     }
 }

@@ -3,6 +3,8 @@
 pub mod Steps
 -- a sum: one term more, a term of three columns, how large it is
 pub mod Sums
+-- the classes of terms, and the sum by theirs
+pub mod Classes
 -- what a computed test of a table shows of its sum at every u and v within limits
 pub mod Limits
 -- fractions: the same, within, proper; the exact value over one common power

@@ -6,6 +6,7 @@ use native.Mathlib.Nat.{le-refl, le-trans, lt-of-le-of-lt, add-le-add, mul-le-mu
 use lib.Dec.{T, ltb, ltb→lt, lit<}
 use lib.ListN.{getD}
 use lib.IntN.{ℤ, pos, natAbs}
+use lib.Signed.{nonNeg}
 use mir.Facts.{and-yes}
 use Rattle.whole.specs.Round.{roundHalfUp, scale}
 use Rattle.whole.proofs.Sizes.{abs-*-≤, abs-round}
@@ -13,8 +14,9 @@ use Rattle.whole.proofs.Rounding.{half-up-mono, product-size}
 use Rattle.equation.specs.Powers.{powersOf}
 use Rattle.equation.specs.Equation.{Term, term, amongTen, product, equationOf}
 use Rattle.equation.specs.Room.{Fitting, EachFits, sizes, Room}
-use Rattle.equation.proofs.Steps.{limit, power-size, powers-at}
-use Rattle.equation.proofs.Sums.{sum-size}
+use Rattle.equation.specs.Inside.{sizePowers}
+use Rattle.equation.proofs.Steps.{limit, power-size, power-pos, powers-at}
+use Rattle.equation.proofs.Classes.{sum-spread}
 
 -- ---- the test, of the limits mu of u and mv of v
 -- a term's powers are among the ten, and 64 bits hold what is divided
@@ -37,16 +39,22 @@ keeps divisor mu mv ts = terms-keep mu mv ts && (ltb (reach mu mv ts) 9223372036
 -- ---- what it shows
 module _ {mu mv : ℕ} (u v : ℤ) (hu : natAbs u ≤ mu) (hv : natAbs v ≤ mv) where
   abbrev pu : List ℤ
-  pu = powersOf scale u 10
+  pu = sizePowers u
 
   abbrev pv : List ℤ
-  pv = powersOf scale v 10
+  pv = sizePowers v
+
+  at : (u : ℤ) {m : ℕ} → natAbs u ≤ m → (i : ℕ) → i < 10 → natAbs (getD (sizePowers u) i (pos 0)) ≤ limit scale m i
+  at u h i k = rw (powers-at scale (pos (natAbs u)) (pos 0) 10 i k) (power-size scale (lit< tt) (pos (natAbs u)) h i)
 
   at-u : (i : ℕ) → i < 10 → natAbs (getD pu i (pos 0)) ≤ limit scale mu i
-  at-u i h = rw (powers-at scale u (pos 0) 10 i h) (power-size scale (lit< tt) u hu i)
+  at-u = at u hu
 
   at-v : (j : ℕ) → j < 10 → natAbs (getD pv j (pos 0)) ≤ limit scale mv j
-  at-v j h = rw (powers-at scale v (pos 0) 10 j h) (power-size scale (lit< tt) v hv j)
+  at-v = at v hv
+
+  not-negative : (u : ℤ) (i : ℕ) → i < 10 → T (nonNeg (getD (sizePowers u) i (pos 0)))
+  not-negative u i h = rw (powers-at scale (pos (natAbs u)) (pos 0) 10 i h, power-pos scale (natAbs u) i) tt
 
   term-fits : (t : Term) → T (term-keeps mu mv t) → Fitting t pu pv
   term-fits (term c i j) h =
@@ -56,6 +64,8 @@ module _ {mu mv : ℕ} (u v : ℤ) (hu : natAbs u ≤ mu) (hv : natAbs v ≤ mv)
       let j-low = ltb→lt j 10 (b .1) in (
         i-low,
         j-low,
+        not-negative u i i-low,
+        not-negative v j j-low,
         lt-of-le-of-lt (abs-*-≤ (getD pu i (pos 0)) (getD pv j (pos 0)) (at-u i i-low) (at-v j j-low))
             (ltb→lt (limit scale mu i * limit scale mv j) 9223372036854775808 (a .1)),
       )
@@ -97,7 +107,7 @@ module _ {mu mv : ℕ} (u v : ℤ) (hu : natAbs u ≤ mu) (hv : natAbs v ≤ mv)
     }
 
     -- and the answer fits 4 bytes
-    pub in-four-bytes : 0 < divisor → natAbs (equationOf divisor ts pu pv) < 2 ^ 31
+    pub in-four-bytes : 0 < divisor → natAbs (equationOf divisor ts (powersOf scale u 10) (powersOf scale v 10)) < 2 ^ 31
     in-four-bytes p =
-        lt-of-le-of-lt (rw abs-round (half-up-mono p (le-trans (sum-size pu pv ts) (sizes-reach ts fit))))
+        lt-of-le-of-lt (rw abs-round (half-up-mono p (le-trans (sum-spread u v ts fit) (sizes-reach ts fit))))
         (ltb→lt (roundHalfUp (reach mu mv ts) divisor) 2147483648 (sums .1))

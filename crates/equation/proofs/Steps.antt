@@ -13,23 +13,32 @@ use lib.Seq.{getD-at}
 use lib.IntN.{ℤ, pos, negsuc, natAbs, _*ℤ_}
 use lib.Signed.{nonNeg, ltZ}
 use Rattle.whole.specs.Round.{roundHalfUp, roundDiv}
-use Rattle.whole.proofs.Signs.{signed, alike, by-sign, signed-*, signed-round}
+use Rattle.whole.specs.Sign.{withSign}
+use Rattle.whole.proofs.Signs.{signed, alike, by-sign, signed-*, signed-round, signed-with}
 use Rattle.whole.proofs.Rounding.{half-up-mono, product-size}
 use Rattle.equation.specs.Powers.{power, powersOf}
 
 -- the sign of the nth power, of a number whose sign is s: below zero the odd ones are below zero, and no other
-abbrev pub sign : Bool → ℕ → Bool
+abbrev sign : Bool → ℕ → Bool
 sign s zero = true
 sign s (suc n) = alike (sign s n) s
 
-pub sign-is : (u : ℤ) (n : ℕ) → sign (nonNeg u) n ≡ not (ltZ u (pos 0) && eqb (n % 2) 1)
-sign-is (pos a) n = above n ∙ ap (λ (t : Bool). not (t && eqb (n % 2) 1)) (sym (le-ltb a 0 zero-le))
+above : (n : ℕ) → sign true n ≡ true
+above zero = refl
+above (suc n) = ap (λ (s : Bool). alike s true) (above n)
+
+sign-is : (u : ℤ) (n : ℕ) → sign (nonNeg u) n ≡ not (eqb (n % 2) 1 && ltZ u (pos 0))
+sign-is (pos a) n = above n ∙ sym (never (eqb (n % 2) 1)) ∙ ap (λ (t : Bool). not (eqb (n % 2) 1 && t)) (sym (le-ltb a 0 zero-le))
   where
-    above : (n : ℕ) → sign true n ≡ true
-    above zero = refl
-    above (suc n) = ap (λ (s : Bool). alike s true) (above n)
-sign-is (negsuc a) n = below n
+    never : (t : Bool) → not (t && false) ≡ true
+    never true = refl
+    never false = refl
+sign-is (negsuc a) n = below n ∙ ap not (sym (still (eqb (n % 2) 1)))
   where
+    still : (t : Bool) → (t && true) ≡ t
+    still true = refl
+    still false = refl
+
     twice : (s : Bool) → alike (alike s false) false ≡ s
     twice true = refl
     twice false = refl
@@ -88,8 +97,19 @@ module _ (scale : ℕ) where
   limit-mono p h (suc (suc n)) = half-up-mono p (mul-le-mul (limit-mono p h (suc n)) h)
 
   -- ---- a power by its sign and its size
-  pub power-signed : (u : ℤ) (n : ℕ) → power scale u n ≡ signed (sign (nonNeg u) n) (limit (natAbs u) n)
+  power-signed : (u : ℤ) (n : ℕ) → power scale u n ≡ signed (sign (nonNeg u) n) (limit (natAbs u) n)
   unfolding power
   power-signed u zero = refl
   power-signed u (suc zero) = by-sign u
   power-signed u (suc (suc n)) = (λ i. roundDiv (power-signed u (suc n) i *ℤ by-sign u i) scale) ∙ simp (signed-*, signed-round)
+
+  pub power-pos : (m n : ℕ) → power scale (pos m) n ≡ pos (limit m n)
+  power-pos m n = power-signed (pos m) n ∙ ap (λ (s : Bool). signed s (limit m n)) (above n)
+
+  -- where u is below zero the odd powers are, and no other
+  pub power-by-size : (u : ℤ) (n : ℕ) → power scale u n ≡ withSign (eqb (n % 2) 1 && ltZ u (pos 0)) (power scale (pos (natAbs u)) n)
+  power-by-size u n =
+      power-signed u n
+      ∙ ap (λ (s : Bool). signed s (limit (natAbs u) n)) (sign-is u n)
+      ∙ signed-with (eqb (n % 2) 1 && ltZ u (pos 0)) (limit (natAbs u) n)
+      ∙ ap (withSign (eqb (n % 2) 1 && ltZ u (pos 0))) (sym (power-pos (natAbs u) n))

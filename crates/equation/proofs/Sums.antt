@@ -47,7 +47,7 @@ length-terms (c ∷ cs) (i ∷ us) (j ∷ vs) p q = ap suc (length-terms cs us v
 
 module _ (pu pv : List ℤ) where
   -- ---- one term more
-  sum-first : (t : Term) (ts : List Term) → sum scale (t ∷ ts) pu pv ≡ value t pu pv +ℤ sum scale ts pu pv
+  pub sum-first : (t : Term) (ts : List Term) → sum scale (t ∷ ts) pu pv ≡ value t pu pv +ℤ sum scale ts pu pv
   unfolding sum
   sum-first (term c i j) ts = refl
 
@@ -64,7 +64,7 @@ module _ (pu pv : List ℤ) where
   sum-next ts k h = ap (λ (l : List Term). sum scale l pu pv) (take-suc ts k none h) ∙ sum-last (take k ts) (getD ts k none)
 
   -- ---- how large
-  sizes-first : (t : Term) (ts : List Term) → sizes (t ∷ ts) pu pv ≡ size t pu pv + sizes ts pu pv
+  pub sizes-first : (t : Term) (ts : List Term) → sizes (t ∷ ts) pu pv ≡ size t pu pv + sizes ts pu pv
   unfolding sizes
   sizes-first (term c i j) ts = refl
 

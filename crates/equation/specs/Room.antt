@@ -2,14 +2,16 @@
 -- show it of a table from the limits of u and v.
 use mathlib.Core.List.{List, [], _∷_}
 use Prim.Native.Nat.{ℕ, _+_, _*_, _<_, _^_}
+use lib.Dec.{T}
 use lib.IntN.{ℤ, pos, natAbs, _*ℤ_}
 use lib.ListN.{getD}
+use lib.Signed.{nonNeg}
 use Rattle.whole.specs.Round.{scale}
 use Rattle.equation.specs.Equation.{Term, term, product}
 
--- the powers are among the ten, and 64 bits hold what is divided
+-- the powers are among the ten and not negative, and 64 bits hold what is divided
 abbrev pub Fitting : Term → List ℤ → List ℤ → Type 0
-Fitting (term c i j) pu pv = (i < 10) × (j < 10) × (natAbs (getD pu i (pos 0) *ℤ getD pv j (pos 0)) < 2 ^ 63)
+Fitting (term c i j) pu pv = (i < 10) × (j < 10) × T (nonNeg (getD pu i (pos 0))) × T (nonNeg (getD pv j (pos 0))) × (natAbs (getD pu i (pos 0) *ℤ getD pv j (pos 0)) < 2 ^ 63)
 
 unfoldable pub EachFits : List Term → List ℤ → List ℤ → Type 0
 EachFits [] pu pv = Unit {0}

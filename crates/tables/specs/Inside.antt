@@ -8,11 +8,14 @@ use lib.IntN.{ℤ, pos, natAbs, _-ℤ_, _*ℤ_}
 use lib.ListN.{getD}
 use mir.Syntax.{w32}
 use mir.Val.{SFits}
-use Rattle.whole.specs.Round.{roundDiv}
+use Rattle.whole.specs.Round.{roundDiv, scale}
 use Rattle.equation.specs.Equation.{Term, equationOf}
 use Rattle.equation.specs.Room.{Room}
+use Rattle.equation.specs.Powers.{powersOf}
+use Rattle.equation.specs.Inside.{sizePowers}
 use Rattle.tables.specs.Page as page
 use Rattle.tables.specs.Page.{Page, Equation, Family, shift, geoid, isGeoid, Each}
+use Rattle.tables.specs.Rule.{evaluated}
 use Rattle.tables.specs.Cyprus.{cyprus}
 use Rattle.tables.specs.Tables.{pages}
 use Rattle.tables.specs.declared.Datum.{Datum}
@@ -60,15 +63,23 @@ abbrev pub Say : Values → Family ℤ → Type 0
 Say v (shift dLat dLon dH) = (v .geoid ≡ false) × (v .first ≡ dLat) × (v .second ≡ dLon) × (v .third ≡ dH)
 Say v (geoid n) = (v .geoid ≡ true) × (v .first ≡ n) × (v .second ≡ pos 0) × (v .third ≡ pos 0)
 
+-- ---- what the equations give by u and v
+abbrev pub equationAt : ℕ → List Term → ℤ → ℤ → ℤ
+equationAt divisor terms u v = equationOf divisor terms (powersOf scale u 10) (powersOf scale v 10)
+
+abbrev pub evaluatedAt : Family Equation → ℤ → ℤ → Family ℤ
+evaluatedAt equations u v = evaluated equations (powersOf scale u 10) (powersOf scale v 10)
+
 -- ---- what is asked, and shown of every point of a box by the test that proofs/Limits computes
 -- of an equation: no number on the way is larger than 64 bits hold, and 4 bytes hold the answer
-pub record Fits (divisor : ℕ) (terms : List Term) (pu pv : List ℤ) : Type 0 where
-  pub room : Room terms pu pv
-  pub fits : SFits w32 (equationOf divisor terms pu pv)
+pub record Fits (divisor : ℕ) (terms : List Term) (u v : ℤ) : Type 0 where
+  pub room : Room terms (sizePowers u) (sizePowers v)
+  pub fits : SFits w32 (equationAt divisor terms u v)
 
--- of all equations of a datum
-abbrev pub AllFit : Family Equation → List ℤ → List ℤ → Type 0
-AllFit equations pu pv = Each (λ e. Fits (e .divisor) (e .terms) pu pv) equations
+-- of all equations of a datum, and of the powers of u and v
+pub record AllFit (equations : Family Equation) (u v : ℤ) : Type 0 where
+  pub small : (natAbs u ≤ 255000000) × (natAbs v ≤ 255000000)
+  pub each : Each (λ e. Fits (e .divisor) (e .terms) u v) equations
 
 -- of an axis: factor and offset are so small that 64 bits hold what is divided, of every 4-byte number
 pub record Close (axis : Axis) : Type 0 where

@@ -1,12 +1,14 @@
 // Code 1, ED 50 (Cyprus): document 000, Table 20.16. Each table stands by rising power of V, then of U.
 use super::Axis;
 use super::Frame;
+use super::Place;
 use super::Values;
+use super::value;
+use equation::powers;
 use kinds::LocalLatitude;
 use whole::Parts;
 ghost use mathlib.Core.Path.{_≡_};
-ghost use Rattle.tables.specs.Rule.{evaluated};
-ghost use Rattle.tables.specs.Inside.{Say, AllFit};
+ghost use Rattle.tables.specs.Inside.{evaluatedAt, Say, AllFit};
 ghost use Rattle.tables.specs.Cyprus.{cyprus};
 
 // U = K (φ - 35), V = K (λ - 33), K = 0.78539816; the area is document 01's.
@@ -75,21 +77,16 @@ const HEIGHT_U: [u8; 11] = [0, 1, 2, 0, 1, 2, 3, 4, 9, 0, 4];
 
 const HEIGHT_V: [u8; 11] = [0, 0, 0, 1, 1, 1, 1, 1, 2, 3, 9];
 
-pub(crate) fn values(pu: [i64; 10], pv: [i64; 10]) -> Values
-    requires { ⌜ AllFit (cyprus .equations) pu pv ⌝ }
-    ensures { λ r. ⌜ Say r (evaluated (cyprus .equations) pu pv) ⌝ }
+pub(crate) fn values(place: Place) -> Values
+    requires { ⌜ AllFit (cyprus .equations) (place .u .0) (place .v .0) ⌝ }
+    ensures { λ r. ⌜ Say r (evaluatedAt (cyprus .equations) (place .u .0) (place .v .0)) ⌝ }
 {
+    let pu = powers(place.u);
+    let pv = powers(place.v);
     Values {
         geoid: false,
-        first: super::value(Parts::DIVISOR, &LATITUDE, &LATITUDE_U, &LATITUDE_V, pu, pv),
-        second: super::value(
-            Parts::DIVISOR,
-            &LONGITUDE,
-            &LONGITUDE_U,
-            &LONGITUDE_V,
-            pu,
-            pv,
-        ),
-        third: super::value(Parts::DIVISOR, &HEIGHT, &HEIGHT_U, &HEIGHT_V, pu, pv),
+        first: value(Parts::DIVISOR, &LATITUDE, &LATITUDE_U, &LATITUDE_V, pu, pv, place),
+        second: value(Parts::DIVISOR, &LONGITUDE, &LONGITUDE_U, &LONGITUDE_V, pu, pv, place),
+        third: value(Parts::DIVISOR, &HEIGHT, &HEIGHT_U, &HEIGHT_V, pu, pv, place),
     }
 }

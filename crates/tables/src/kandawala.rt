@@ -1,12 +1,14 @@
 // Code 5, Kandawala, geoid heights: document 000, Table 23.21. Each table stands by rising power of V, then of U.
 use super::Axis;
 use super::Frame;
+use super::Place;
 use super::Values;
+use super::value;
+use equation::powers;
 use kinds::LocalLatitude;
 use whole::Parts;
 ghost use mathlib.Core.Path.{_≡_};
-ghost use Rattle.tables.specs.Rule.{evaluated};
-ghost use Rattle.tables.specs.Inside.{Say, AllFit};
+ghost use Rattle.tables.specs.Inside.{evaluatedAt, Say, AllFit};
 ghost use Rattle.tables.specs.Kandawala.{kandawala};
 
 // U = K (φ - 7), V = K (λ - 80), K = 0.52359877; the area is document 01's.
@@ -46,13 +48,15 @@ const HEIGHT_U: [u8; 9] = [0, 1, 2, 3, 2, 7, 0, 4, 2];
 
 const HEIGHT_V: [u8; 9] = [0, 0, 0, 0, 1, 2, 3, 3, 9];
 
-pub(crate) fn values(pu: [i64; 10], pv: [i64; 10]) -> Values
-    requires { ⌜ AllFit (kandawala .equations) pu pv ⌝ }
-    ensures { λ r. ⌜ Say r (evaluated (kandawala .equations) pu pv) ⌝ }
+pub(crate) fn values(place: Place) -> Values
+    requires { ⌜ AllFit (kandawala .equations) (place .u .0) (place .v .0) ⌝ }
+    ensures { λ r. ⌜ Say r (evaluatedAt (kandawala .equations) (place .u .0) (place .v .0)) ⌝ }
 {
+    let pu = powers(place.u);
+    let pv = powers(place.v);
     Values {
         geoid: true,
-        first: super::value(Parts::DIVISOR, &HEIGHT, &HEIGHT_U, &HEIGHT_V, pu, pv),
+        first: value(Parts::DIVISOR, &HEIGHT, &HEIGHT_U, &HEIGHT_V, pu, pv, place),
         second: 0,
         third: 0,
     }

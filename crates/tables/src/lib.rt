@@ -1,4 +1,4 @@
-// Document 000: u, v and the tables of six datums, a file each, and their areas; what each gives by the powers of u and v.
+// Document 000: u, v and the tables of six datums, a file each, and their areas; what each gives for a position of its area.
 mod alaska;
 mod cyprus;
 mod kandawala;
@@ -12,12 +12,14 @@ use kinds::LocalPosition;
 use kinds::within;
 use whole::Parts;
 ghost use mathlib.Core.Path.{_≡_};
+ghost use mathlib.Core.Bool.{true};
 ghost use Prim.Native.Nat.{_≤_};
 ghost use lib.IntN.{natAbs};
 ghost use lib.ListN.{length};
-ghost use Rattle.equation.specs.Equation.{terms, equationOf};
-ghost use Rattle.tables.specs.Rule.{countedFrom, enclosed, evaluated};
-ghost use Rattle.tables.specs.Inside.{datumPage, frameOf, onAxis, Say, Fits, AllFit, Close};
+ghost use Rattle.equation.specs.Equation.{terms};
+ghost use Rattle.equation.specs.Inside.{sizePowers};
+ghost use Rattle.tables.specs.Rule.{countedFrom, enclosed, inBox, worked};
+ghost use Rattle.tables.specs.Inside.{datumPage, frameOf, onAxis, equationAt, Say, Fits, Close};
 
 pub enum Datum {
     Cyprus,
@@ -43,18 +45,20 @@ impl Datum {
         }
     }
 
-    // What the equations give, by the powers of u and of v.
-    pub fn values(self, pu: [i64; 10], pv: [i64; 10]) -> Values
-        requires { ⌜ AllFit (datumPage self .equations) pu pv ⌝ }
-        ensures { λ r. ⌜ Say r (evaluated (datumPage self .equations) pu pv) ⌝ }
+    // What the equations give for a position of the area.
+    pub fn values(self, position: LocalPosition) -> Values
+        requires { ⌜ inBox (datumPage self) (position .latitude .0) (position .longitude .0) ≡ true ⌝ }
+        ensures { λ r. ⌜ Say r (worked (datumPage self) (position .latitude .0) (position .longitude .0)) ⌝ }
     {
+        let frame = self.frame();
+        let place = frame.place(position);
         match self {
-            Datum::Cyprus => cyprus::values(pu, pv),
-            Datum::Minna => minna::values(pu, pv),
-            Datum::Alaska => alaska::values(pu, pv),
-            Datum::Qatar => qatar::values(pu, pv),
-            Datum::Kandawala => kandawala::values(pu, pv),
-            Datum::Nahrwan => nahrwan::values(pu, pv),
+            Datum::Cyprus => cyprus::values(place),
+            Datum::Minna => minna::values(place),
+            Datum::Alaska => alaska::values(place),
+            Datum::Qatar => qatar::values(place),
+            Datum::Kandawala => kandawala::values(place),
+            Datum::Nahrwan => nahrwan::values(place),
         }
     }
 }
@@ -136,8 +140,8 @@ impl Axis {
     }
 }
 
-// One equation: its sum, divided and rounded once, of whose answer 4 bytes are known to be enough. The divisor is a literal of
-// who calls.
+// One equation at a place: its sum, divided and rounded once, of whose answer 4 bytes are known to be enough. The divisor is a
+// literal of who calls, and pu and pv are the powers of the sizes of the place's u and v.
 pub(crate) fn value(
     divisor: u64,
     coefficients: &[i64],
@@ -145,11 +149,13 @@ pub(crate) fn value(
     vs: &[u8],
     pu: [i64; 10],
     pv: [i64; 10],
+    place: Place,
 ) -> i32
     requires { ⌜ (2 ≤ divisor) × (divisor ≤ 4611686018427387904) ⌝ }
     requires { ⌜ (length (now us) ≡ length (now coefficients)) × (length (now vs) ≡ length (now coefficients)) ⌝ }
-    requires { ⌜ Fits divisor (terms (now coefficients) (now us) (now vs)) pu pv ⌝ }
-    ensures { λ r. ⌜ r ≡ equationOf divisor (terms (now (coefficients .entry)) (now (us .entry)) (now (vs .entry))) pu pv ⌝ }
+    requires { ⌜ (pu ≡ sizePowers (place .u .0)) × (pv ≡ sizePowers (place .v .0)) ⌝ }
+    requires { ⌜ Fits divisor (terms (now coefficients) (now us) (now vs)) (place .u .0) (place .v .0) ⌝ }
+    ensures { λ r. ⌜ r ≡ equationAt divisor (terms (now (coefficients .entry)) (now (us .entry)) (now (vs .entry))) (place .u .0) (place .v .0) ⌝ }
 {
-    whole::rounded(equation::sum(coefficients, us, vs, pu, pv), divisor) as i32
+    whole::rounded(equation::sum(coefficients, us, vs, pu, pv, place.u, place.v), divisor) as i32
 }

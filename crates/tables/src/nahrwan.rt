@@ -1,12 +1,14 @@
 // Code 6, Nahrwan, geoid heights: document 000, Table 23.27. Each table stands by rising power of V, then of U.
 use super::Axis;
 use super::Frame;
+use super::Place;
 use super::Values;
+use super::value;
+use equation::powers;
 use kinds::LocalLatitude;
 use whole::Parts;
 ghost use mathlib.Core.Path.{_≡_};
-ghost use Rattle.tables.specs.Rule.{evaluated};
-ghost use Rattle.tables.specs.Inside.{Say, AllFit};
+ghost use Rattle.tables.specs.Inside.{evaluatedAt, Say, AllFit};
 ghost use Rattle.tables.specs.Nahrwan.{nahrwan};
 
 // U = K (φ - 23), V = K (λ - 57), K = 0.41887902; the area is document 01's.
@@ -43,13 +45,15 @@ const HEIGHT_U: [u8; 7] = [0, 1, 2, 3, 0, 0, 0];
 
 const HEIGHT_V: [u8; 7] = [0, 0, 0, 0, 1, 2, 3];
 
-pub(crate) fn values(pu: [i64; 10], pv: [i64; 10]) -> Values
-    requires { ⌜ AllFit (nahrwan .equations) pu pv ⌝ }
-    ensures { λ r. ⌜ Say r (evaluated (nahrwan .equations) pu pv) ⌝ }
+pub(crate) fn values(place: Place) -> Values
+    requires { ⌜ AllFit (nahrwan .equations) (place .u .0) (place .v .0) ⌝ }
+    ensures { λ r. ⌜ Say r (evaluatedAt (nahrwan .equations) (place .u .0) (place .v .0)) ⌝ }
 {
+    let pu = powers(place.u);
+    let pv = powers(place.v);
     Values {
         geoid: true,
-        first: super::value(Parts::DIVISOR, &HEIGHT, &HEIGHT_U, &HEIGHT_V, pu, pv),
+        first: value(Parts::DIVISOR, &HEIGHT, &HEIGHT_U, &HEIGHT_V, pu, pv, place),
         second: 0,
         third: 0,
     }

@@ -1,12 +1,14 @@
 // Code 4, Qatar National: document 000, Table 20.41. Each table stands by rising power of V, then of U.
 use super::Axis;
 use super::Frame;
+use super::Place;
 use super::Values;
+use super::value;
+use equation::powers;
 use kinds::LocalLatitude;
 use whole::Parts;
 ghost use mathlib.Core.Path.{_≡_};
-ghost use Rattle.tables.specs.Rule.{evaluated};
-ghost use Rattle.tables.specs.Inside.{Say, AllFit};
+ghost use Rattle.tables.specs.Inside.{evaluatedAt, Say, AllFit};
 ghost use Rattle.tables.specs.Qatar.{qatar};
 
 // U = K (φ - 25), V = K (λ - 51), K = 1.04719754; the area is document 01's.
@@ -78,21 +80,16 @@ const HEIGHT_U: [u8; 9] = [0, 1, 2, 8, 9, 0, 3, 0, 1];
 
 const HEIGHT_V: [u8; 9] = [0, 0, 0, 0, 0, 2, 3, 7, 8];
 
-pub(crate) fn values(pu: [i64; 10], pv: [i64; 10]) -> Values
-    requires { ⌜ AllFit (qatar .equations) pu pv ⌝ }
-    ensures { λ r. ⌜ Say r (evaluated (qatar .equations) pu pv) ⌝ }
+pub(crate) fn values(place: Place) -> Values
+    requires { ⌜ AllFit (qatar .equations) (place .u .0) (place .v .0) ⌝ }
+    ensures { λ r. ⌜ Say r (evaluatedAt (qatar .equations) (place .u .0) (place .v .0)) ⌝ }
 {
+    let pu = powers(place.u);
+    let pv = powers(place.v);
     Values {
         geoid: false,
-        first: super::value(Parts::DIVISOR, &LATITUDE, &LATITUDE_U, &LATITUDE_V, pu, pv),
-        second: super::value(
-            Parts::DIVISOR,
-            &LONGITUDE,
-            &LONGITUDE_U,
-            &LONGITUDE_V,
-            pu,
-            pv,
-        ),
-        third: super::value(Parts::DIVISOR, &HEIGHT, &HEIGHT_U, &HEIGHT_V, pu, pv),
+        first: value(Parts::DIVISOR, &LATITUDE, &LATITUDE_U, &LATITUDE_V, pu, pv, place),
+        second: value(Parts::DIVISOR, &LONGITUDE, &LONGITUDE_U, &LONGITUDE_V, pu, pv, place),
+        third: value(Parts::DIVISOR, &HEIGHT, &HEIGHT_U, &HEIGHT_V, pu, pv, place),
     }
 }

@@ -1,15 +1,16 @@
 -- A number by its sign and its size. An identity between terms of one sign is an identity of ℕ. Assumes nothing.
 use mathlib.Core.Path.{_≡_, refl, sym, ap, _∙_, subst}
-use mathlib.Core.Bool.{Bool, true, false}
+use mathlib.Core.Bool.{Bool, true, false, not, cond}
 use Prim.Native.Nat.{ℕ, zero, suc, _+_, _*_, _<_}
 use native.Mathlib.Nat.{add-zero, zero-add, zero-mul, mul-zero, div-eq-of-lt}
 use native.Mathlib.Omega.{arith}
 use lib.Dec.{T, ltb→lt}
 use borrow.Author.Tests.{ltb-true}
-use lib.IntN.{ℤ, pos, negsuc, negℤ, natAbs, _+ℤ_, _-ℤ_, _*ℤ_, +ℤ-idr, +ℤ-idl}
+use lib.IntN.{ℤ, pos, negsuc, negℤ, natAbs, _+ℤ_, _-ℤ_, _*ℤ_, +ℤ-idr, +ℤ-idl, negℤ-negℤ, negℤ-+ℤ}
 use lib.Signed.{mag, nonNeg, ltZ, _<ℤ_}
 use Rattle.whole.specs.Round.{roundHalfUp, roundDiv}
-use Rattle.whole.proofs.Ring.{ -ℤ-negℤ}
+use Rattle.whole.specs.Sign.{withSign}
+use Rattle.whole.proofs.Ring.{ -ℤ-negℤ, negℤ-*ℤ, *ℤ-negℤ}
 use Rattle.whole.proofs.Sizes.{abs-neg}
 
 -- n, or -n
@@ -72,6 +73,30 @@ unfolding roundDiv
 signed-round true a d = refl
 signed-round false zero d = zero-signed (half-up-zero d)
 signed-round false (suc a) d = refl
+
+-- ---- a sign that is put on
+pub signed-with : (below : Bool) (n : ℕ) → signed (not below) n ≡ withSign below (pos n)
+signed-with true n = refl
+signed-with false n = refl
+
+pub with-none : (below : Bool) → withSign below (pos 0) ≡ pos 0
+with-none true = refl
+with-none false = refl
+
+pub with-size : (below : Bool) (x : ℤ) → natAbs (withSign below x) ≡ natAbs x
+with-size true x = abs-neg x
+with-size false x = refl
+
+pub with-+ : (below : Bool) (x y : ℤ) → withSign below (x +ℤ y) ≡ withSign below x +ℤ withSign below y
+with-+ true x y = negℤ-+ℤ x y
+with-+ false x y = refl
+
+-- on two factors: none, where it is on both
+pub with-* : (a b : Bool) (x y : ℤ) → withSign a x *ℤ withSign b y ≡ withSign (cond a (not b) b) (x *ℤ y)
+with-* true true x y = negℤ-*ℤ x (negℤ y) ∙ ap negℤ (*ℤ-negℤ x y) ∙ negℤ-negℤ (x *ℤ y)
+with-* true false x y = negℤ-*ℤ x y
+with-* false true x y = *ℤ-negℤ x y
+with-* false false x y = refl
 
 -- ---- what a test of the sign says
 pub above-is : {x : ℤ} → pos 0 <ℤ x → x ≡ pos (natAbs x)

@@ -1,4 +1,5 @@
 pub mod Round
+pub mod Sign
 pub mod Every
 pub mod Places
 pub mod Digits

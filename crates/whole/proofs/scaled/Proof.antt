@@ -32,18 +32,6 @@ module _ (c : tie.Start) where
   rest-is : r ≡ p % scale
   rest-is = omega arith
 
-  half-added : (n : ℕ) → (n + 50000000) / scale ≡ roundHalfUp n scale
-  half-added n = omega arith
-
-cast-q : tie.Need-cast-q
-cast-q c = search needs
-
-div-q : tie.Need-div-q
-div-q c = search needs
-
-cast-r : tie.Need-cast-r
-cast-r c = search needs
-
 mul-r : tie.Need-mul-r
 mul-r c = search needs
 
@@ -53,43 +41,21 @@ sub-r c = search needs
 mul-result : tie.Need-mul-result
 mul-result c = record { fits = omega (arith, first-small c) }
 
-mul-result-2 : tie.Need-mul-result-2
-mul-result-2 c = record { fits = omega (arith, rest-small c) }
+mul-nearest : tie.Need-mul-nearest
+mul-nearest c = record { fits = omega (arith, rest-small c) }
 
-cast-result : tie.Need-cast-result
-cast-result c = search needs
+nearest-requires : tie.Need-nearest-requires
+nearest-requires c κs = (lit< tt, omega (arith, rest-small c))
 
 add-result : tie.Need-add-result
-add-result c = record { fits = omega (arith, rest-small c) }
-
-cast-result-2 : tie.Need-cast-result-2
-cast-result-2 c = search needs
-
-div-result : tie.Need-div-result
-div-result c = search needs
-
-add-result-2 : tie.Need-add-result-2
-add-result-2 c = record { fits = omega (arith, first-small c, rest-small c) }
+add-result c = record { fits = omega (arith, first-small (c .before), rest-small (c .before), c .nearest .ensures) }
 
 returns : tie.Need-returns
 returns c =
-    ap (λ (n : ℕ). q c * u c + n) (half-added c (r c * u c) ∙ ap (λ (n : ℕ). roundHalfUp (n * u c) scale) (rest-is c))
-    ∙ sym (half-up-split (p c) (u c) (lit< tt))
+    let s = c .before in
+    ap (λ (n : ℕ). q s * u s + n) (c .nearest .ensures ∙ ap (λ (n : ℕ). roundHalfUp (n * u s) scale) (rest-is s))
+    ∙ sym (half-up-split (p s) (u s) (lit< tt))
 
 pub scaled-spec : {M : Type 1} → statement M
 scaled-spec =
-    tie.close
-    (tie.spec
-    cast-q
-    div-q
-    cast-r
-    mul-r
-    sub-r
-    mul-result
-    mul-result-2
-    cast-result
-    add-result
-    cast-result-2
-    div-result
-    add-result-2
-    returns)
+    tie.close (tie.spec mul-r sub-r mul-result mul-nearest nearest-requires add-result returns)
