@@ -10,10 +10,15 @@ use Rattle.whole.specs.Round.{scale}
 use Rattle.whole.specs.Sign.{withSign}
 use Rattle.equation.specs.Powers.{powersOf}
 use Rattle.equation.specs.Equation.{Term, term, product}
+use Rattle.equation.specs.declared.Powers.{Powers}
 
 -- the ten powers of the size of u
 abbrev pub sizePowers : ℤ → List ℤ
 sizePowers u = powersOf scale (pos (natAbs u)) 10
+
+-- and of that of v
+abbrev pub bothPowers : ℤ → ℤ → Powers
+bothPowers u v = record { u = sizePowers u; v = sizePowers v }
 
 -- the class of a term, by its powers of U and V: 0 both are even, 1 V's alone is odd, 2 U's alone, 3 both
 abbrev pub classOf : Term → ℕ

@@ -9,11 +9,28 @@ ghost use Rattle.whole.specs.Round.{scale};
 ghost use Rattle.equation.specs.Powers.{powersOf};
 ghost use Rattle.equation.specs.Equation.{terms, sum};
 ghost use Rattle.equation.specs.Room.{Room};
-ghost use Rattle.equation.specs.Inside.{sizePowers, classSums, joined};
+ghost use Rattle.equation.specs.Inside.{sizePowers, bothPowers, classSums, joined};
+
+// The ten powers of the sizes of u and of v, which are worked once for a point and passed together to each of its equations.
+pub struct Powers {
+    pub u: [i64; 10],
+    pub v: [i64; 10],
+}
+
+impl Powers {
+    pub fn of(u: Parts, v: Parts) -> Powers
+        requires { ⌜ (natAbs (u .0) ≤ 255000000) × (natAbs (v .0) ≤ 255000000) ⌝ }
+        ensures { λ r. ⌜ r ≡ bothPowers (u .0) (v .0) ⌝ }
+    {
+        let pu = size_powers(u);
+        let pv = size_powers(v);
+        Powers { u: pu, v: pv }
+    }
+}
 
 // The powers of the size of u from the zeroth to the ninth, in hundred-millionths, each the one before times u, rounded. Those of
 // u itself have the same sizes: `sum` puts the signs on.
-pub fn powers(u: Parts) -> [i64; 10]
+pub fn size_powers(u: Parts) -> [i64; 10]
     requires { ⌜ natAbs (u .0) ≤ 255000000 ⌝ }
     ensures { λ r. ⌜ r ≡ sizePowers (u .0) ⌝ }
 {
@@ -33,22 +50,23 @@ pub fn powers(u: Parts) -> [i64; 10]
 }
 
 // The sum of each coefficient times its product of powers, which is exact. Who calls divides it, by a literal, and rounds once.
-// The table is three columns of one length: coefficients, powers of u, powers of v. pu and pv are the powers of the sizes of u
-// and v: a rounding of a number that is not negative is the shorter one, and a term's sign is that of its class.
+// The table is three columns of one length: coefficients, powers of u, powers of v. It is worked by sizes, since a rounding of a
+// number that is not negative is the shorter one; and a term's sign is that of its class.
 pub fn sum(
     coefficients: &[i64],
     us: &[u8],
     vs: &[u8],
-    pu: [i64; 10],
-    pv: [i64; 10],
+    powers: Powers,
     u: Parts,
     v: Parts,
 ) -> i64
     requires { ⌜ (length (now us) ≡ length (now coefficients)) × (length (now vs) ≡ length (now coefficients)) ⌝ }
-    requires { ⌜ (pu ≡ sizePowers (u .0)) × (pv ≡ sizePowers (v .0)) ⌝ }
-    requires { ⌜ Room (terms (now coefficients) (now us) (now vs)) pu pv ⌝ }
+    requires { ⌜ powers ≡ bothPowers (u .0) (v .0) ⌝ }
+    requires { ⌜ Room (terms (now coefficients) (now us) (now vs)) (sizePowers (u .0)) (sizePowers (v .0)) ⌝ }
     ensures { λ r. ⌜ r ≡ sum scale (terms (now (coefficients .entry)) (now (us .entry)) (now (vs .entry))) (powersOf scale (u .0) 10) (powersOf scale (v .0) 10) ⌝ }
 {
+    let pu = powers.u;
+    let pv = powers.v;
     joined(class_sums(coefficients, us, vs, pu, pv), u.0 < 0, v.0 < 0)
 }
 

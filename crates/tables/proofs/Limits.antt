@@ -16,13 +16,12 @@ use Rattle.whole.proofs.Orders.{multiple-order, between-size}
 use Rattle.whole.proofs.Words.{small}
 use Rattle.whole.proofs.Demands.{in-order}
 use Rattle.kinds.specs.Kinds.{within}
-use Rattle.equation.specs.Equation.{equationOf}
 use Rattle.equation.proofs.Limits.{keeps, room, in-four-bytes}
 use Rattle.tables.specs.Page.{Page, Axis, Equation, each}
 use Rattle.tables.specs.Cyprus.{cyprus}
-use Rattle.tables.specs.Rule.{longitudeOn, inBox, along, powersU, powersV}
+use Rattle.tables.specs.Rule.{longitudeOn, inBox, along}
 use Rattle.tables.specs.Tables.{pages}
-use Rattle.tables.specs.Inside.{axisOf, onAxis, Fits, AllFit, Close}
+use Rattle.tables.specs.Inside.{axisOf, onAxis, equationAt, Fits, AllFit, Small, Close}
 use Rattle.tables.proofs.Families.{each-by}
 
 -- ---- a test of every page shows of the page in each row
@@ -48,7 +47,7 @@ abbrev equation-keeps : ℕ → ℕ → Equation → Bool
 equation-keeps mu mv e = ltb 0 (e .divisor) && keeps (e .divisor) mu mv (e .terms)
 
 abbrev sizes-keep : Page → Bool
-sizes-keep page = leb (most-u page) 1000000000 && (leb (most-v page) 1000000000 && each (equation-keeps (most-u page) (most-v page)) (page .equations))
+sizes-keep page = leb (most-u page) 255000000 && (leb (most-v page) 255000000 && each (equation-keeps (most-u page) (most-v page)) (page .equations))
 
 abbrev pub page-keeps : Page → Bool
 page-keeps page = axis-keeps (page .u) && (axis-keeps (page .v) && sizes-keep page)
@@ -100,8 +99,8 @@ module _ (page : Page) (h : T (page-keeps page)) where
   pub v-coded : (x : ℤ) → onAxis (axisOf (page .v)) x ≡ along (page .v) x
   v-coded = as-coded (page .v) (parts .1)
 
-  sizes : T (leb (most-u page) 1000000000) × T (leb (most-v page) 1000000000) × T (each (equation-keeps (most-u page) (most-v page)) (page .equations))
-  sizes = three (leb (most-u page) 1000000000) (leb (most-v page) 1000000000) (each (equation-keeps (most-u page) (most-v page)) (page .equations)) (parts .2)
+  sizes : T (leb (most-u page) 255000000) × T (leb (most-v page) 255000000) × T (each (equation-keeps (most-u page) (most-v page)) (page .equations))
+  sizes = three (leb (most-u page) 255000000) (leb (most-v page) 255000000) (each (equation-keeps (most-u page) (most-v page)) (page .equations)) (parts .2)
 
   -- and of a point of its box
   module _ (latitude longitude : ℤ) (inside : inBox page latitude longitude ≡ true) where
@@ -120,19 +119,17 @@ module _ (page : Page) (h : T (page-keeps page)) where
     pub v-size : natAbs v ≤ most-v page
     v-size = between (page .v) (parts .1) (page .west) (page .east) (longitudeOn page longitude) (sides .1)
 
-    pub u-small : natAbs u ≤ 1000000000
-    u-small = le-trans u-size (leb→le (most-u page) 1000000000 (sizes .0))
+    both-small : Small u v
+    both-small = (le-trans u-size (leb→le (most-u page) 255000000 (sizes .0)), le-trans v-size (leb→le (most-v page) 255000000 (sizes .1)))
 
-    pub v-small : natAbs v ≤ 1000000000
-    v-small = le-trans v-size (leb→le (most-v page) 1000000000 (sizes .1))
-
-    fits : (e : Equation) → T (equation-keeps (most-u page) (most-v page) e) → Fits (e .divisor) (e .terms) (powersU page latitude) (powersV page longitude)
+    fits : (e : Equation) → T (equation-keeps (most-u page) (most-v page) e) → Fits (e .divisor) (e .terms) u v
     fits e t =
         let p = and-yes (ltb 0 (e .divisor)) (keeps (e .divisor) (most-u page) (most-v page) (e .terms)) t in
         record {
+          small = both-small;
           room = room u v u-size v-size (e .divisor) (e .terms) (p .1);
-          fits = small (equationOf (e .divisor) (e .terms) (powersU page latitude) (powersV page longitude)) (in-four-bytes u v u-size v-size (e .divisor) (e .terms) (p .1) (ltb→lt 0 (e .divisor) (p .0)));
+          fits = small (equationAt (e .divisor) (e .terms) u v) (in-four-bytes u v u-size v-size (e .divisor) (e .terms) (p .1) (ltb→lt 0 (e .divisor) (p .0)));
         }
 
-    pub all-fit : AllFit (page .equations) (powersU page latitude) (powersV page longitude)
+    pub all-fit : AllFit (page .equations) u v
     all-fit = each-by (equation-keeps (most-u page) (most-v page)) fits (page .equations) (sizes .2)

@@ -71,15 +71,19 @@ abbrev pub evaluatedAt : Family Equation → ℤ → ℤ → Family ℤ
 evaluatedAt equations u v = evaluated equations (powersOf scale u 10) (powersOf scale v 10)
 
 -- ---- what is asked, and shown of every point of a box by the test that proofs/Limits computes
--- of an equation: no number on the way is larger than 64 bits hold, and 4 bytes hold the answer
+-- of u and v: their powers can be worked
+abbrev pub Small : ℤ → ℤ → Type 0
+Small u v = (natAbs u ≤ 255000000) × (natAbs v ≤ 255000000)
+
+-- and of an equation: no number on the way is larger than 64 bits hold, and 4 bytes hold the answer
 pub record Fits (divisor : ℕ) (terms : List Term) (u v : ℤ) : Type 0 where
+  pub small : Small u v
   pub room : Room terms (sizePowers u) (sizePowers v)
   pub fits : SFits w32 (equationAt divisor terms u v)
 
--- of all equations of a datum, and of the powers of u and v
-pub record AllFit (equations : Family Equation) (u v : ℤ) : Type 0 where
-  pub small : (natAbs u ≤ 255000000) × (natAbs v ≤ 255000000)
-  pub each : Each (λ e. Fits (e .divisor) (e .terms) u v) equations
+-- of all equations of a datum
+abbrev pub AllFit : Family Equation → ℤ → ℤ → Type 0
+AllFit equations u v = Each (λ e. Fits (e .divisor) (e .terms) u v) equations
 
 -- of an axis: factor and offset are so small that 64 bits hold what is divided, of every 4-byte number
 pub record Close (axis : Axis) : Type 0 where

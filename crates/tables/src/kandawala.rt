@@ -4,7 +4,7 @@ use super::Frame;
 use super::Place;
 use super::Values;
 use super::value;
-use equation::powers;
+use equation::Powers;
 use kinds::LocalLatitude;
 use whole::Parts;
 ghost use mathlib.Core.Path.{_≡_};
@@ -52,11 +52,10 @@ pub(crate) fn values(place: Place) -> Values
     requires { ⌜ AllFit (kandawala .equations) (place .u .0) (place .v .0) ⌝ }
     ensures { λ r. ⌜ Say r (evaluatedAt (kandawala .equations) (place .u .0) (place .v .0)) ⌝ }
 {
-    let pu = powers(place.u);
-    let pv = powers(place.v);
+    let powers = Powers::of(place.u, place.v);
     Values {
         geoid: true,
-        first: value(Parts::DIVISOR, &HEIGHT, &HEIGHT_U, &HEIGHT_V, pu, pv, place),
+        first: value(Parts::DIVISOR, &HEIGHT, &HEIGHT_U, &HEIGHT_V, powers, place),
         second: 0,
         third: 0,
     }

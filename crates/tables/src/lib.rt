@@ -6,6 +6,7 @@ mod minna;
 mod nahrwan;
 mod qatar;
 
+use equation::Powers;
 use kinds::LocalLatitude;
 use kinds::LocalLongitude;
 use kinds::LocalPosition;
@@ -17,7 +18,7 @@ ghost use Prim.Native.Nat.{_≤_};
 ghost use lib.IntN.{natAbs};
 ghost use lib.ListN.{length};
 ghost use Rattle.equation.specs.Equation.{terms};
-ghost use Rattle.equation.specs.Inside.{sizePowers};
+ghost use Rattle.equation.specs.Inside.{bothPowers};
 ghost use Rattle.tables.specs.Rule.{countedFrom, enclosed, inBox, worked};
 ghost use Rattle.tables.specs.Inside.{datumPage, frameOf, onAxis, equationAt, Say, Fits, Close};
 
@@ -141,21 +142,20 @@ impl Axis {
 }
 
 // One equation at a place: its sum, divided and rounded once, of whose answer 4 bytes are known to be enough. The divisor is a
-// literal of who calls, and pu and pv are the powers of the sizes of the place's u and v.
+// literal of who calls.
 pub(crate) fn value(
     divisor: u64,
     coefficients: &[i64],
     us: &[u8],
     vs: &[u8],
-    pu: [i64; 10],
-    pv: [i64; 10],
+    powers: Powers,
     place: Place,
 ) -> i32
     requires { ⌜ (2 ≤ divisor) × (divisor ≤ 4611686018427387904) ⌝ }
     requires { ⌜ (length (now us) ≡ length (now coefficients)) × (length (now vs) ≡ length (now coefficients)) ⌝ }
-    requires { ⌜ (pu ≡ sizePowers (place .u .0)) × (pv ≡ sizePowers (place .v .0)) ⌝ }
+    requires { ⌜ powers ≡ bothPowers (place .u .0) (place .v .0) ⌝ }
     requires { ⌜ Fits divisor (terms (now coefficients) (now us) (now vs)) (place .u .0) (place .v .0) ⌝ }
     ensures { λ r. ⌜ r ≡ equationAt divisor (terms (now (coefficients .entry)) (now (us .entry)) (now (vs .entry))) (place .u .0) (place .v .0) ⌝ }
 {
-    whole::rounded(equation::sum(coefficients, us, vs, pu, pv, place.u, place.v), divisor) as i32
+    whole::rounded(equation::sum(coefficients, us, vs, powers, place.u, place.v), divisor) as i32
 }

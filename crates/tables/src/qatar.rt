@@ -4,7 +4,7 @@ use super::Frame;
 use super::Place;
 use super::Values;
 use super::value;
-use equation::powers;
+use equation::Powers;
 use kinds::LocalLatitude;
 use whole::Parts;
 ghost use mathlib.Core.Path.{_≡_};
@@ -84,12 +84,11 @@ pub(crate) fn values(place: Place) -> Values
     requires { ⌜ AllFit (qatar .equations) (place .u .0) (place .v .0) ⌝ }
     ensures { λ r. ⌜ Say r (evaluatedAt (qatar .equations) (place .u .0) (place .v .0)) ⌝ }
 {
-    let pu = powers(place.u);
-    let pv = powers(place.v);
+    let powers = Powers::of(place.u, place.v);
     Values {
         geoid: false,
-        first: value(Parts::DIVISOR, &LATITUDE, &LATITUDE_U, &LATITUDE_V, pu, pv, place),
-        second: value(Parts::DIVISOR, &LONGITUDE, &LONGITUDE_U, &LONGITUDE_V, pu, pv, place),
-        third: value(Parts::DIVISOR, &HEIGHT, &HEIGHT_U, &HEIGHT_V, pu, pv, place),
+        first: value(Parts::DIVISOR, &LATITUDE, &LATITUDE_U, &LATITUDE_V, powers, place),
+        second: value(Parts::DIVISOR, &LONGITUDE, &LONGITUDE_U, &LONGITUDE_V, powers, place),
+        third: value(Parts::DIVISOR, &HEIGHT, &HEIGHT_U, &HEIGHT_V, powers, place),
     }
 }

@@ -1,20 +1,67 @@
 -- `tables::Datum::values` meets its contract. Assumes nothing.
-use mathlib.Core.Path.{_≡_, sym, subst}
-use Rattle.tables.specs.Rule.{evaluated}
-use Rattle.tables.specs.Inside.{datumPage, Say, AllFit}
+use mathlib.Core.Path.{_≡_, sym, ap, _∙_, subst, subst₂}
+use lib.Dec.{T}
+use lib.IntN.{ℤ}
+use Rattle.tables.specs.Page.{Page}
+use Rattle.tables.specs.Rule.{countedFrom, longitudeOn, along, worked}
+use Rattle.tables.specs.Inside.{rowOf, datumPage, frameOf, onAxis, evaluatedAt, Say, AllFit, Close}
 use Rattle.tables.specs.declared.Datum.{Datum}
+use Rattle.tables.specs.declared.Frame.{Frame}
 use Rattle.tables.specs.declared.Values.{Values}
+use Rattle.tables.proofs.Limits.{page-keeps, row-keeps, close-u, close-v, u-coded, v-coded, all-fit}
 use borrow.Author.Needs.{needs}
 use Rattle.tables.proofs.Datum.values.Statement.{statement}
 use Rattle.tables.proofs.Datum.values.Tie as tie
 
--- the datum is d, and what is said of its page is said of d's
-module _ (s : tie.Start) {d : Datum} (e : s .args .self ≡ d) where
-  fit : AllFit (datumPage d .equations) (s .args .pu) (s .args .pv)
-  fit = subst (λ (x : Datum). AllFit (datumPage x .equations) (s .args .pu) (s .args .pv)) e (s .pre)
+module _ (s : tie.Start) where
+  abbrev page : Page
+  page = datumPage (s .args .self)
 
-  same : (v : Values) → Say v (evaluated (datumPage d .equations) (s .args .pu) (s .args .pv)) → Say v (evaluated (datumPage (s .args .self) .equations) (s .args .pu) (s .args .pv))
-  same v = subst (λ (x : Datum). Say v (evaluated (datumPage x .equations) (s .args .pu) (s .args .pv))) (sym e)
+  abbrev latitude : ℤ
+  latitude = s .args .position .latitude .0
+
+  abbrev longitude : ℤ
+  longitude = s .args .position .longitude .0
+
+  keeps : T (page-keeps page)
+  keeps = row-keeps (rowOf (s .args .self))
+
+frame-requires : tie.Need-frame-requires
+frame-requires c κs = search needs
+
+place-requires : tie.Need-place-requires
+place-requires c κs =
+    subst (λ (f : Frame). Close (f .u) × Close (f .v)) (sym (c .frame .ensures))
+    (close-u (page (c .before)) (keeps (c .before)), close-v (page (c .before)) (keeps (c .before)))
+
+-- the place: u and v, by the page
+module _ (c : tie.After-place) where
+  abbrev s : tie.Start
+  s = c .before .before
+
+  frame : c .before .frame .result ≡ frameOf (page s)
+  frame = c .before .frame .ensures
+
+  u-is : c .place .result .u .0 ≡ along (page s .u) (latitude s)
+  u-is = c .place .ensures .0 ∙ (λ i. onAxis (frame i .u) (latitude s)) ∙ u-coded (page s) (keeps s) (latitude s)
+
+  v-is : c .place .result .v .0 ≡ along (page s .v) (longitudeOn (page s) (longitude s))
+  v-is =
+      c .place .ensures .1
+      ∙ (λ i. onAxis (frame i .v) (countedFrom (frame i .west) (longitude s)))
+      ∙ v-coded (page s) (keeps s) (longitudeOn (page s) (longitude s))
+
+  -- the datum is d, and what is said of its page is said of d's
+  module _ {d : Datum} (e : s .args .self ≡ d) where
+    fit : AllFit (datumPage d .equations) (c .place .result .u .0) (c .place .result .v .0)
+    fit =
+        subst (λ (x : Datum). AllFit (datumPage x .equations) (c .place .result .u .0) (c .place .result .v .0)) e
+        (subst₂ (AllFit (page s .equations)) (sym u-is) (sym v-is) (all-fit (page s) (keeps s) (latitude s) (longitude s) (s .pre)))
+
+    same : (v : Values) → Say v (evaluatedAt (datumPage d .equations) (c .place .result .u .0) (c .place .result .v .0)) → Say v (worked (page s) (latitude s) (longitude s))
+    same v h =
+        subst₂ (λ (x y : ℤ). Say v (evaluatedAt (page s .equations) x y)) u-is v-is
+        (subst (λ (x : Datum). Say v (evaluatedAt (datumPage x .equations) (c .place .result .u .0) (c .place .result .v .0))) (sym e) h)
 
 enum-told : tie.Need-enum-told
 enum-told c = search needs
@@ -74,6 +121,8 @@ pub values-spec : {M : Type 1} → statement M
 values-spec =
     tie.close
     (tie.spec
+    frame-requires
+    place-requires
     enum-told
     values-requires
     enum-told-2

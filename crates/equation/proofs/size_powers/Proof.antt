@@ -1,4 +1,4 @@
--- `equation::powers` meets its contract. Assumes nothing.
+-- `equation::size_powers` meets its contract. Assumes nothing.
 use mathlib.Core.Path.{_≡_, refl, ap, sym, _∙_}
 use mathlib.Core.List.{List, [], _∷_, _++_}
 use Prim.Native.Nat.{ℕ, _+_, _-_, _*_, _<_, _≤_}
@@ -18,8 +18,8 @@ use Rattle.whole.proofs.Below.{below}
 use Rattle.whole.proofs.Words.{Holds, to, from-unsigned}
 use Rattle.equation.specs.Powers.{power, powersOf}
 use Rattle.equation.proofs.Steps.{limit, limit-next, limit-mono, power-pos}
-use Rattle.equation.proofs.powers.Statement.{statement}
-use Rattle.equation.proofs.powers.Tie as tie
+use Rattle.equation.proofs.size_powers.Statement.{statement}
+use Rattle.equation.proofs.size_powers.Tie as tie
 
 -- the first k powers stand in the array, and the last of them is held
 record Inv (size : ℕ) (out : List ℤ) (held k : ℕ) : Type 0 where
@@ -183,8 +183,8 @@ returns c =
       (as-signed a {n = 9} (lit< tt) (ninth c) .reads ∙ sym (power-pos scale (size a) 9))
     ∙ ap (λ (n : ℕ). powersOf scale (pos n) 10) (size-is a)
 
-pub powers-spec : {M : Type 1} → statement M
-powers-spec =
+pub size-powers-spec : {M : Type 1} → statement M
+size-powers-spec =
     tie.close
     (tie.spec
     Inv-loop
