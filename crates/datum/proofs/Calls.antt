@@ -8,11 +8,13 @@ use Rattle.whole.proofs.Words.{of}
 use Rattle.kinds.specs.Answer.{Answer, gives, refused, provided}
 use Rattle.kinds.proofs.Answers.{passed, failed, same-value}
 use Rattle.kinds.specs.Kinds.{isPosition}
+use Rattle.kinds.specs.Cases.{localPosition}
+use Rattle.kinds.specs.declared.LocalPositionAnswer.{LocalPositionAnswer}
 use Rattle.tables.specs.Page.{Page, Equation, Family, shift, geoid, isShift, isGeoid, ofEach}
 use Rattle.tables.specs.Rule.{inArea, worked}
 use Rattle.kinds.proofs.Calls.{found}
 use Rattle.datum.specs.Point.{isCode, pageOf, pointOf, asked}
-use Rattle.datum.specs.Inside.{valuesAnswer, isOf}
+use Rattle.datum.specs.Inside.{located, valuesAnswer, isOf}
 use Rattle.datum.specs.declared.ValuesAnswer.{ValuesAnswer}
 
 abbrev codePage : ℤ → Answer Page
@@ -63,7 +65,12 @@ pub told : (height : Bool) {code latitude longitude : ℤ} → SFits w64 code �
     → valuesAnswer r ≡ asked (isOf height) (toZ w64 (ofZ w64 code)) (toZ w64 (ofZ w64 latitude)) (toZ w64 (ofZ w64 longitude)) → r ≡ case → valuesAnswer case ≡ asked (isOf height) code latitude longitude
 told height c b l r e k = found c b l valuesAnswer (λ a. a) (asked (isOf height)) {given = r} e k
 
--- its test of the family, by the flag of the frame
+-- what `located` gave, likewise
+pub placed : (page : Page) {latitude longitude : ℤ} → SFits w64 latitude → SFits w64 longitude → (r : LocalPositionAnswer) {case : LocalPositionAnswer}
+    → localPosition r ≡ located page (toZ w64 (ofZ w64 latitude)) (toZ w64 (ofZ w64 longitude)) → r ≡ case → located page latitude longitude ≡ localPosition case
+placed page b l r e k = sym (λ i. located page (of b .reads i) (of l .reads i)) ∙ sym e ∙ ap localPosition k
+
+-- the test of the family, by the flag of the frame
 pub by-flag : (height flag : Bool) (e : Family Equation) → flag ≡ isGeoid e → Bool·beq flag height ≡ isOf height e
 by-flag true flag e h = go flag ∙ h
   where

@@ -1,35 +1,54 @@
 -- A point's answer by its page: what the tests say of it, and what three numbers say. Assumes nothing.
-use mathlib.Core.Path.{_≡_, refl}
+use mathlib.Core.Path.{_≡_, refl, ap, _∙_, subst}
 use mathlib.Core.Bool.{Bool, true, false, cond, _&&_, false≢true}
-use mathlib.Core.List.{List}
+use Prim.Native.Nat.{ℕ}
 use lib.Dec.{T}
 use lib.IntN.{ℤ}
-use Rattle.whole.proofs.Bools.{joined}
-use Rattle.kinds.specs.Answer.{Answer, gives, refused, provided}
+use Rattle.whole.proofs.Bools.{both, joined}
+use Rattle.kinds.specs.Answer.{Answer, gives, refused, provided, AllHold}
 use Rattle.kinds.specs.Kinds.{isPosition, isFourBytes}
+use Rattle.kinds.proofs.Answers as Answers
+use Rattle.kinds.proofs.Answers.{same-value, all-held, first-failed, fails}
 use Rattle.kinds.proofs.Tested.{in-four-bytes}
-use Rattle.equation.specs.Equation.{equationOf}
 use Rattle.tables.specs.Page.{Page, Equation, Family, shift, geoid, isShift, isGeoid, each}
-use Rattle.tables.specs.Rule.{inBox, evaluated, powersU, powersV, worked}
-use Rattle.tables.specs.Inside.{valuesSay, Say, Fits, AllFit}
+use Rattle.tables.specs.Rule.{inBox, longitudeOn, along, worked}
+use Rattle.tables.specs.Inside.{valuesSay, Say, equationAt, evaluatedAt, Fits, AllFit}
 use Rattle.tables.specs.declared.Values.{Values}
 use Rattle.tables.proofs.Limits.{page-keeps, all-fit}
-use Rattle.datum.specs.Point.{pointOf}
+use Rattle.datum.specs.Point.{pointTests, pointOf}
+use Rattle.datum.specs.Inside.{located}
 
 -- ---- by the tests, in the order of the code
 module _ (page : Page) (latitude longitude : ℤ) where
-  abbrev by : Bool → Bool → Answer (Family ℤ)
-  by a b = provided a 3 (provided (a && b) 6 (gives (worked page latitude longitude)))
+  abbrev by : Bool → Bool → Answer (ℤ × ℤ)
+  by a b = provided a 3 (provided (a && b) 6 (gives (latitude, longitude)))
 
-  pub out-of-range : isPosition latitude longitude ≡ false → pointOf page latitude longitude ≡ refused 3
+  pub out-of-range : isPosition latitude longitude ≡ false → located page latitude longitude ≡ refused 3
   out-of-range e = λ i. by (e i) (inBox page latitude longitude)
 
   module _ (ranged : isPosition latitude longitude ≡ true) where
-    pub out-of-box : inBox page latitude longitude ≡ false → pointOf page latitude longitude ≡ refused 6
+    pub out-of-box : inBox page latitude longitude ≡ false → located page latitude longitude ≡ refused 6
     out-of-box e = λ i. by (ranged i) (e i)
 
-    pub in-box : inBox page latitude longitude ≡ true → pointOf page latitude longitude ≡ gives (worked page latitude longitude)
+    pub in-box : inBox page latitude longitude ≡ true → located page latitude longitude ≡ gives (latitude, longitude)
     in-box e = λ i. by (ranged i) (e i)
+
+  -- ---- a point's answer, by whether it is located
+  module _ {p : ℤ × ℤ} (e : located page latitude longitude ≡ gives p) where
+    held : AllHold (pointTests page latitude longitude) × (gives (latitude, longitude) ≡ gives p)
+    held = all-held (pointTests page latitude longitude) (gives (latitude, longitude)) e
+
+    same : _≡_ {A = ℤ × ℤ} (latitude, longitude) p
+    same = same-value (held .1)
+
+    pub inside : inBox page (p .0) (p .1) ≡ true
+    inside = subst (λ (q : ℤ × ℤ). inBox page (q .0) (q .1) ≡ true) same (both (isPosition latitude longitude) (inBox page latitude longitude) (held .0 .1 .0) .1)
+
+    pub works : pointOf page latitude longitude ≡ gives (worked page (p .0) (p .1))
+    works = Answers.held (pointTests page latitude longitude) (gives (worked page latitude longitude)) (held .0) ∙ ap (λ (q : ℤ × ℤ). gives (worked page (q .0) (q .1))) same
+
+  pub refuses : (n : ℕ) → located page latitude longitude ≡ refused n → pointOf page latitude longitude ≡ refused n
+  refuses n e = fails (pointTests page latitude longitude) (gives (worked page latitude longitude)) n (first-failed (pointTests page latitude longitude) (latitude, longitude) n e)
 
 -- ---- what three numbers say
 pub said : (v : Values) (values : Family ℤ) → Say v values → valuesSay v ≡ values
@@ -52,15 +71,15 @@ as-geoid v = go (v .geoid)
     go false h = absurd (false≢true h)
 
 -- ---- each of a point's values is in 4 bytes
-of-family : (equations : Family Equation) (pu pv : List ℤ) → AllFit equations pu pv → each isFourBytes (evaluated equations pu pv) ≡ true
-of-family equations pu pv = go equations
+of-family : (equations : Family Equation) (u v : ℤ) → AllFit equations u v → each isFourBytes (evaluatedAt equations u v) ≡ true
+of-family equations u v = go equations
   where
-    held : (e : Equation) → Fits (e .divisor) (e .terms) pu pv → isFourBytes (equationOf (e .divisor) (e .terms) pu pv) ≡ true
-    held e f = in-four-bytes (equationOf (e .divisor) (e .terms) pu pv) (f .fits)
+    held : (e : Equation) → Fits (e .divisor) (e .terms) u v → isFourBytes (equationAt (e .divisor) (e .terms) u v) ≡ true
+    held e f = in-four-bytes (equationAt (e .divisor) (e .terms) u v) (f .fits)
 
-    go : (equations : Family Equation) → AllFit equations pu pv → each isFourBytes (evaluated equations pu pv) ≡ true
+    go : (equations : Family Equation) → AllFit equations u v → each isFourBytes (evaluatedAt equations u v) ≡ true
     go (shift a b c) f = joined (held a (f .0)) (joined (held b (f .1)) (held c (f .2)))
     go (geoid n) f = held n f
 
 pub fit : (page : Page) → T (page-keeps page) → (latitude longitude : ℤ) → inBox page latitude longitude ≡ true → each isFourBytes (worked page latitude longitude) ≡ true
-fit page h latitude longitude inside = of-family (page .equations) (powersU page latitude) (powersV page longitude) (all-fit page h latitude longitude inside)
+fit page h latitude longitude inside = of-family (page .equations) (along (page .u) latitude) (along (page .v) (longitudeOn page longitude)) (all-fit page h latitude longitude inside)

@@ -1,9 +1,10 @@
 -- What is private to the crate: its own enums, and what its functions tell each other. No promise to a user speaks of it.
 use mathlib.Core.Bool.{Bool, true, false}
 use lib.IntN.{ℤ}
-use Rattle.kinds.specs.Answer.{Answer, gives, refused, numberOf}
+use Rattle.kinds.specs.Answer.{Answer, gives, refused, numberOf, inOrder}
 use Rattle.tables.specs.Page.{Page, Equation, Family, isShift, isGeoid}
 use Rattle.tables.specs.Inside.{datumPage, valuesSay}
+use Rattle.datum.specs.Point.{pointTests}
 use Rattle.datum.specs.declared.DatumAnswer.{DatumAnswer}
 use Rattle.datum.specs.declared.DatumAnswer.the-variants as Datum
 use Rattle.datum.specs.declared.ValuesAnswer.{ValuesAnswer}
@@ -13,6 +14,10 @@ use Rattle.datum.specs.declared.ValuesAnswer.the-variants as Values
 abbrev pub datumAnswer : DatumAnswer → Answer Page
 datumAnswer (Datum.Gives d) = gives (datumPage d)
 datumAnswer Datum.Unknown = refused 4
+
+-- a point as a position of the area
+abbrev pub located : Page → ℤ → ℤ → Answer (ℤ × ℤ)
+located page latitude longitude = inOrder (pointTests page latitude longitude) (gives (latitude, longitude))
 
 -- the values of a point
 abbrev pub valuesAnswer : ValuesAnswer → Answer (Family ℤ)

@@ -10,11 +10,12 @@ use tables::Datum;
 use tables::Values;
 ghost use mathlib.Core.Path.{_≡_};
 ghost use Rattle.kinds.specs.Answer.{gives, provided};
+ghost use Rattle.kinds.specs.Cases.{localPosition};
 ghost use Rattle.tables.specs.Page.{shift};
 ghost use Rattle.tables.specs.Inside.{datumPage};
-ghost use Rattle.datum.specs.Point.{isCode, pageOf, pointOf, asked, answerOf, shiftOf, geoidOf};
+ghost use Rattle.datum.specs.Point.{isCode, pageOf, asked, answerOf, shiftOf, geoidOf};
 ghost use Rattle.datum.specs.Cases.{shiftSays, shiftAnswer, geoidAnswer, pointAnswer};
-ghost use Rattle.datum.specs.Inside.{datumAnswer, valuesAnswer, isOf};
+ghost use Rattle.datum.specs.Inside.{datumAnswer, located, valuesAnswer, isOf};
 
 // The shifts of a point from its local datum to WGS 84.
 pub struct Shifts {
@@ -99,12 +100,13 @@ fn asked(geoid: bool, code: i64, latitude: i64, longitude: i64) -> ValuesAnswer
         return ValuesAnswer::Refused(Refusal::Code);
     };
     let frame = datum.frame();
-    if frame.geoid != geoid {
-        return ValuesAnswer::Refused(Refusal::Family);
-    }
-    match located(datum, latitude, longitude) {
-        LocalPositionAnswer::Gives(position) => ValuesAnswer::Gives(datum.values(position)),
-        LocalPositionAnswer::Refused(why) => ValuesAnswer::Refused(why),
+    if frame.geoid == geoid {
+        match located(datum, latitude, longitude) {
+            LocalPositionAnswer::Gives(position) => ValuesAnswer::Gives(datum.values(position)),
+            LocalPositionAnswer::Refused(why) => ValuesAnswer::Refused(why),
+        }
+    } else {
+        ValuesAnswer::Refused(Refusal::Family)
     }
 }
 

@@ -4,12 +4,15 @@ use mathlib.Core.Bool.{cond}
 use lib.IntN.{ℤ}
 use Rattle.whole.proofs.Words.{of}
 use Rattle.kinds.specs.Answer.{gives}
-use Rattle.tables.specs.Page.{shift, geoid, isEither}
-use Rattle.tables.specs.Inside.{datumPage}
+use Rattle.kinds.specs.Cases.{localPosition}
+use Rattle.kinds.specs.declared.LocalPositionAnswer.{LocalPositionAnswer}
+use Rattle.tables.specs.Page.{Page, shift, geoid, isEither}
+use Rattle.tables.specs.Inside.{datumPage, valuesSay}
+use Rattle.tables.specs.declared.Values.{Values}
 use Rattle.datum.specs.Point.{pointOf, answerOf}
-use Rattle.datum.specs.Inside.{datumAnswer, valuesAnswer}
-use Rattle.datum.specs.declared.ValuesAnswer.{ValuesAnswer}
-use Rattle.datum.proofs.Calls.{coded-page, right, none}
+use Rattle.datum.specs.Inside.{datumAnswer, located}
+use Rattle.datum.proofs.Points.{inside, works, refuses, said}
+use Rattle.datum.proofs.Calls.{coded-page, right, none, placed}
 use borrow.Author.Needs.{needs}
 use Rattle.datum.proofs.answer.Statement.{statement}
 use Rattle.datum.proofs.answer.Tie as tie
@@ -28,11 +31,11 @@ returns c =
     let s = c .before .before .before in
     none isEither (s .args .code) (s .args .latitude) (s .args .longitude) (coded-page (s .fits .code) (c .before .before .coded .ensures) (ap datumAnswer (c .enum-told .given .1)))
 
-point-requires : tie.Need-point-requires
-point-requires c κs = search needs
+located-requires : tie.Need-located-requires
+located-requires c κs = search needs
 
-enum-known-values : tie.Need-enum-known-values
-enum-known-values c = search needs
+enum-known-position : tie.Need-enum-known-position
+enum-known-position c = search needs
 
 of-requires : tie.Need-of-requires
 of-requires c κs = search needs
@@ -43,35 +46,59 @@ of-requires-2 c κs = search needs
 enum-known-why : tie.Need-enum-known-why
 enum-known-why c = search needs
 
--- what `point` gave, on the page of the code's datum
-gave : (c : tie.After-point) {case : ValuesAnswer} → c .point .result ≡ case → valuesAnswer case ≡ answerOf (c .before .before .before .before .before .args .code) (c .before .before .before .before .before .args .latitude) (c .before .before .before .before .before .args .longitude)
-gave c e =
-    let s = c .before .before .before .before .before in
-    let page = datumPage (c .before .before .datum .given .0 .0) in
-    ap valuesAnswer (sym e)
-    ∙ c .point .ensures
-    ∙ (λ i. pointOf page (of (s .fits .latitude) .reads i) (of (s .fits .longitude) .reads i))
-    ∙ right isEither (s .args .code) (s .args .latitude) (s .args .longitude) page refl
-    (coded-page (s .fits .code) (c .before .before .before .before .coded .ensures) (ap datumAnswer (c .before .before .datum .given .1)))
+-- what `located` gave, on the page of the code's datum, and what the call gives by it
+module _ (c : tie.After-located) where
+  abbrev s : tie.Start
+  s = c .before .before .before .before .before
+
+  abbrev page : Page
+  page = datumPage (c .before .before .datum .given .0 .0)
+
+  gave : {case : LocalPositionAnswer} → c .located .result ≡ case → located page (s .args .latitude) (s .args .longitude) ≡ localPosition case
+  gave = placed page (s .fits .latitude) (s .fits .longitude) (c .located .result) (c .located .ensures)
+
+  by-point : pointOf page (s .args .latitude) (s .args .longitude) ≡ answerOf (s .args .code) (s .args .latitude) (s .args .longitude)
+  by-point =
+      right isEither (s .args .code) (s .args .latitude) (s .args .longitude) page refl
+      (coded-page (s .fits .code) (c .before .before .before .before .coded .ensures) (ap datumAnswer (c .before .before .datum .given .1)))
+
+values-requires : tie.Need-values-requires
+values-requires c κs =
+    let l = c .before .before .before in
+    inside (page l) (s l .args .latitude) (s l .args .longitude) (gave l (c .before .position .given .1))
+
+-- what the equations gave
+module _ (c : tie.After-values) where
+  abbrev l : tie.After-located
+  l = c .before .before .before .before
+
+  abbrev v : Values
+  v = c .values .result
+
+  answers : gives (valuesSay v) ≡ answerOf (s l .args .code) (s l .args .latitude) (s l .args .longitude)
+  answers =
+      ap gives (said v _ (c .values .ensures))
+      ∙ sym (works (page l) (s l .args .latitude) (s l .args .longitude) (gave l (c .before .before .position .given .1)))
+      ∙ by-point l
 
 returns-2 : tie.Need-returns-2
 returns-2 c =
     let k = c .before .before .before in
-    let v = k .before .values .given in
-    ap (λ (x : ℤ). gives (geoid x)) (c .of .ensures ∙ of {x = v .0 .0 .first} (record { sfits = c .before .struct-told .given .1 .0 .1 }) .reads)
-    ∙ (λ i. gives (cond (sym (c .before .before .if1 .taken) i) (geoid (v .0 .0 .first)) (shift (v .0 .0 .first) (v .0 .0 .second) (v .0 .0 .third))))
-    ∙ gave (k .before .before .before) (v .1)
+    ap (λ (x : ℤ). gives (geoid x)) (c .of .ensures ∙ of {x = v k .first} (record { sfits = c .before .struct-told .given .1 .0 .1 }) .reads)
+    ∙ (λ i. gives (cond (sym (c .before .before .if1 .taken) i) (geoid (v k .first)) (shift (v k .first) (v k .second) (v k .third))))
+    ∙ answers k
 
 returns-3 : tie.Need-returns-3
 returns-3 c =
     let k = c .before .before in
-    let v = k .before .values .given in
     ap gives (c .of2 .ensures)
-    ∙ (λ i. gives (cond (sym (c .before .if1 .left) i) (geoid (v .0 .0 .first)) (shift (v .0 .0 .first) (v .0 .0 .second) (v .0 .0 .third))))
-    ∙ gave (k .before .before .before) (v .1)
+    ∙ (λ i. gives (cond (sym (c .before .if1 .left) i) (geoid (v k .first)) (shift (v k .first) (v k .second) (v k .third))))
+    ∙ answers k
 
 returns-4 : tie.Need-returns-4
-returns-4 c = gave (c .before .before .before) (c .before .why .given .1)
+returns-4 c =
+    let l = c .before .before .before in
+    sym (refuses (page l) (s l .args .latitude) (s l .args .longitude) _ (gave l (c .before .why .given .1))) ∙ by-point l
 
 pub answer-spec : {M : Type 1} → statement M
 answer-spec =
@@ -81,8 +108,9 @@ answer-spec =
     enum-known-datum
     enum-told
     returns
-    point-requires
-    enum-known-values
+    located-requires
+    enum-known-position
+    values-requires
     of-requires
     of-requires-2
     enum-known-why
