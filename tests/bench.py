@@ -1,11 +1,14 @@
 #!/usr/bin/env python3
-"""How long each call of include/buckettin.h takes, beside the same in plain C: python3 tests/bench.py, where rt staticlib
-buckettin has been run and x86_64-linux-gnu-gcc is there with a static C library.
+"""How long each call of include/buckettin.h takes, beside the same in plain C, and a point beside C that is tuned for its code:
+python3 tests/bench.py, where rt staticlib buckettin has been run and x86_64-linux-gnu-gcc is there with a static C
+library.
 
-Builds tests/bench/bench.c with tests/bench/plain.c and the archive, each compiled by itself, and runs it. Prints, of each call,
-how many are answered in a second by the archive and by plain C, and how many times as long the archive takes; and, where the
-toolchain's emulator runs it, how many instructions each takes. No time is held to a limit: it ends with an error where two
-answers differ, or where the program cannot be built or run.
+Builds tests/bench/bench.c with the archive, with tests/bench/plain.c and with tests/bench/tuned.c, each compiled by itself, the
+last at -O3 and the others at -O2, and runs it. Prints, of each call, how many are answered in a second by the archive, by plain
+C and by tuned C, and how many times as long as each of these the archive takes; and, where the toolchain's emulator runs it, how
+many instructions each takes. Tuned C has the shift and the geoid height of a point, and no other call.
+
+It ends with an error where two answers differ, or where the program cannot be built or run. No time is held to a limit.
 """
 import os
 import subprocess
@@ -14,7 +17,10 @@ import tempfile
 import pages
 import plain
 import program
+import tuned
 
+SIDES = ['archive', 'plain C', 'tuned C']
+HEADERS = ['include', 'tests/bench']
 FEW = ['-DINPUTS=60', '-DSHEETS=1']    # inputs of a call: a line of the emulator's log is an instruction
 LOG = ['-one-insn-per-tb', '-d', 'exec,nochain']
 
@@ -25,8 +31,17 @@ def areas():
     return f'static const struct area AREAS[] = {{{rows}}};\n'
 
 
+def built(room, *words):
+    """The command that runs tests/bench/bench.c, made in a folder, with further words for its compiler."""
+    for name, text in {'areas.h': areas(), 'tables.h': plain.tables(), 'sums.h': tuned.sums()}.items():
+        with open(os.path.join(room, name), 'w', encoding='ascii') as f:
+            f.write(text)
+    apart = program.made(['tests/bench/tuned.c'], room, HEADERS, 'tuned.o', ['-c', '-O3'])
+    return program.compiled(['tests/bench/bench.c', 'tests/bench/plain.c', apart, program.archive()], room, HEADERS, words=words)
+
+
 def instructions(command):
-    """The count of calls and the name of each measure, and the instructions of its loop on each side."""
+    """Of each call its name, and the instructions of an answer on each side that has it."""
     with subprocess.Popen([command[0], *LOG, *command[1:], 'mark'], stdout=subprocess.PIPE, stderr=subprocess.PIPE) as child:
         spans, count = [], 0
         for line in child.stderr:
@@ -35,22 +50,34 @@ def instructions(command):
                 count = 0
             elif line.startswith(b'Trace '):
                 count += 1
-        names = child.stdout.read().decode().splitlines()
-    if child.returncode or len(spans) != 3 * len(names):
+        measures = [line.split(' ', 2) for line in child.stdout.read().decode().splitlines()]
+    if child.returncode or len(spans) != 2 * sum(int(sides) for _, sides, _ in measures):
         raise SystemExit('the instructions could not be counted')
-    return [(*name.split(' ', 1), *sides) for name, *sides in zip(names, spans[1::3], spans[2::3])]
+    loops = iter(spans[1::2])
+    return [(name, [next(loops) / int(answers) for _ in range(int(sides))]) for answers, sides, name in measures]
+
+
+def head():
+    cells = [f'{side:>12}' for side in SIDES] + [f'{"times " + side:>14}' for side in SIDES[1:]]
+    return ' '.join([f'{"instructions an answer":32}', *cells])
+
+
+def row(name, counts):
+    """A row of the table: what each side takes, and how many times as many as each other side the archive does."""
+    missing = len(SIDES) - len(counts)
+    cells = [f'{count:12.0f}' for count in counts] + [f'{"-":>12}'] * missing
+    cells += [f'{counts[0] / count:14.2f}' for count in counts[1:]] + [f'{"-":>14}'] * missing
+    return ' '.join([f'{name:32}', *cells])
 
 
 def main():
-    sources = ['tests/bench/bench.c', program.archive()]
     with tempfile.TemporaryDirectory() as room:
-        with open(os.path.join(room, 'areas.h'), 'w', encoding='ascii') as f:
-            f.write(areas())
-        subprocess.run(plain.built(room, *sources), check=True)
-        if program.emulator():
-            print(f'\n{"instructions an answer":32} {"archive":>12} {"plain C":>12} {"times":>8}')
-            for count, name, archive, c in instructions(plain.built(room, *FEW, *sources)):
-                print(f'{name:32} {archive / int(count):12.0f} {c / int(count):12.0f} {archive / c:8.2f}')
+        subprocess.run(built(room), check=True)
+        counted = instructions(built(room, *FEW)) if program.emulator() else []
+    if counted:
+        print('\n' + head())
+    for name, counts in counted:
+        print(row(name, counts))
 
 
 if __name__ == '__main__':

@@ -1,10 +1,6 @@
-"""The tables that plain C takes, written from document 000's text, with the areas of tests/pages.py; and a program in C that uses
-tests/bench/plain.c, which has document 01's rules."""
-import os
-
+"""The tables that plain C takes, written from document 000's text, with the areas of tests/pages.py."""
 import document_000
 import pages
-import program
 
 
 def tables():
@@ -20,10 +16,3 @@ def tables():
         numbers = [pages.ms(latitude), pages.ms(longitude), factor, south, north, west, east]
         datums.append(f'    {{{", ".join(map(str, numbers))}, {{{", ".join(equations)}}}, {len(equations)}}},')
     return '\n'.join(out + ['static const struct datum DATUMS[] = {'] + datums + ['};']) + '\n'
-
-
-def built(room, *others):
-    """The command that runs it, made of tests/bench/plain.c and the other sources in a folder."""
-    with open(os.path.join(room, 'tables.h'), 'w', encoding='ascii') as f:
-        f.write(tables())
-    return program.compiled([*others, 'tests/bench/plain.c'], room, ['include', 'tests/bench'])

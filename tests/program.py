@@ -102,12 +102,17 @@ def archive():
     return ARCHIVE
 
 
-def compiled(sources, room, headers=(), name='compiled', words=()):
-    """The command that runs a C program, compiled for x86-64 at -O2 into a folder, where a header of its own may be too; other
-    headers are in the folders that are named. Each source is compiled by itself, and may be an object or an archive. Further
-    words for the compiler stand before the sources."""
+def made(sources, room, headers=(), name='compiled', words=()):
+    """What gcc makes of C sources for x86-64, in a folder, where a header of its own may be too; other headers are in the
+    folders that are named. Each source is compiled by itself at -O2, and may be an object or an archive. Further words for the
+    compiler stand before the sources: -c makes an object of one source, and another level is taken instead of -O2."""
     path = os.path.join(room, name)
     folders = [word for folder in (room, *headers) for word in ('-I', folder)]
     command = ['x86_64-linux-gnu-gcc', '-O2', '-static', '-Wall', '-Wextra', '-Werror', *folders, '-o', path, *words]
     subprocess.run(command + sources, check=True)
-    return emulator() + [path]
+    return path
+
+
+def compiled(sources, room, headers=(), name='compiled', words=()):
+    """The command that runs a C program that is so made."""
+    return emulator() + [made(sources, room, headers, name, words)]

@@ -1,13 +1,15 @@
-/* Times each call of include/buckettin.h beside the one of tests/bench/plain.h, on the same inputs: the same loops call both
-   sides, through pointers. First all answers, with every byte of the lent buffers, are held to each other, those of broken
-   inputs too: it ends with 1 where two differ. Run with an argument it times nothing, and marks where each loop begins and
-   ends, for an emulator that counts. areas.h, which tests/bench.py writes, has the areas of document 01. */
+/* Times each call of include/buckettin.h beside the one of tests/bench/plain.h, and beside the one of tests/bench/tuned.h where
+   that has it, on the same inputs: the same loops call every side, through pointers. First all answers, with every byte of the
+   lent buffers, are held to each other, those of broken inputs too: it ends with 1 where two differ. Run with an argument it
+   times nothing, and marks where each loop begins and ends, for an emulator that counts. areas.h, which tests/bench.py writes,
+   has the areas of document 01. */
 #include <stdio.h>
 #include <stdlib.h>
 #include <string.h>
 #include <time.h>
 
 #include "plain.h"
+#include "tuned.h"
 
 #ifndef INPUTS
 #define INPUTS 2000           /* of a call, but for sheets */
@@ -33,11 +35,14 @@ struct side {
     buckettin_written_t (*line)(const uint8_t *, size_t, uint8_t *, size_t);
 };
 
-static const struct side SIDES[] = {
+enum { ARCHIVE, PLAIN, TUNED, ALL };
+
+static const struct side SIDES[ALL] = {
     {buckettin_shift, buckettin_geoid, buckettin_first, buckettin_read_latitude, buckettin_read_longitude,
      buckettin_write_latitude, buckettin_write_longitude, buckettin_sheet, buckettin_line},
     {plain_shift, plain_geoid, plain_first, plain_read_latitude, plain_read_longitude,
      plain_write_latitude, plain_write_longitude, plain_sheet, plain_line},
+    {.shift = tuned_shift, .geoid = tuned_geoid},
 };
 
 struct area {
@@ -88,7 +93,7 @@ static struct sheet sheets[SHEET_SETS][SHEETS];
 static union {
     struct answer answers[INPUTS];
     struct result results[SHEETS];
-} given[2];
+} given[ALL];
 
 /* A loop of one call over the inputs; the call says what it takes of an input, `in`, and of what is lent, `out`. */
 #define OVER_INPUTS(name, field, ...) \
@@ -120,6 +125,12 @@ typedef void run_t(const struct side *, const void *, void *);
 
 static run_t *const OF_INPUTS[] = {run_shift, run_geoid, run_first, run_read_latitude, run_read_longitude,
                                    run_write_latitude, run_write_longitude, run_line};
+
+/* How many sides have the call: tuned C, the last of them, has two. */
+static int sides(run_t *run)
+{
+    return run == run_shift || run == run_geoid ? ALL : TUNED;
+}
 
 /* What is timed: a loop of calls over one set of inputs. */
 struct measure {
@@ -324,14 +335,16 @@ static struct sheet broken_sheet(void)
     return sheet;
 }
 
-/* Runs both sides; whether they answer alike, to the last byte that they are lent. */
+/* Runs every side; whether they answer alike, to the last byte that they are lent. */
 static int is_alike(run_t *run, const void *inputs)
 {
-    for (int side = 0; side < 2; side++) {
+    for (int side = 0; side < sides(run); side++) {
         memset(&given[side], '#', sizeof given[side]);
         run(&SIDES[side], inputs, &given[side]);
+        if (memcmp(&given[side], &given[ARCHIVE], sizeof given[side]) != 0)
+            return 0;
     }
-    return memcmp(&given[0], &given[1], sizeof given[0]) == 0;
+    return 1;
 }
 
 /* Whether each call of it, as it was run last, was answered or refused as it is named. A float has no refusal beside it. */
@@ -341,7 +354,7 @@ static int is_as_named(const struct measure *measure)
     size_t size = is_sheet ? sizeof(struct result) : sizeof(struct answer);
     for (size_t i = 0; i < (is_sheet ? SHEETS : INPUTS); i++) {
         uint32_t refusal;
-        memcpy(&refusal, (const char *)&given[0] + i * size, sizeof refusal);
+        memcpy(&refusal, (const char *)&given[ARCHIVE] + i * size, sizeof refusal);
         if (measure->run != run_first && refusal != measure->refusal)
             return 0;
     }
@@ -391,21 +404,35 @@ static double median(double values[ROUNDS])
     return values[ROUNDS / 2];
 }
 
-/* Both sides in turn, each first in every other round, after a pass of each that is not counted. */
+/* How many calls of each side are answered in a second, and how many times as long the archive takes as each other side. */
+static void print_row(const struct measure *measure, int passes, double times[ALL][ROUNDS], double ratios[ALL][ROUNDS])
+{
+    double calls = (double)measure->count * passes;
+    printf("%-32s %12.0f %12.0f", measure->name, calls / median(times[ARCHIVE]), calls / median(times[PLAIN]));
+    if (sides(measure->run) == ALL)
+        printf(" %12.0f %14.2f %14.2f\n", calls / median(times[TUNED]), median(ratios[PLAIN]), median(ratios[TUNED]));
+    else
+        printf(" %12s %14.2f %14s\n", "-", median(ratios[PLAIN]), "-");
+}
+
+/* All sides in turn, in each round the next one first, after a pass of each that is not counted. */
 static void compare(const struct measure *measure)
 {
-    double times[2][ROUNDS], ratios[ROUNDS];
-    seconds(measure, 0, 1);
-    int passes = 1 + ROUND / (seconds(measure, 0, 1) + seconds(measure, 1, 1)) * 2;
+    int count = sides(measure->run);
+    double times[ALL][ROUNDS], ratios[ALL][ROUNDS], all = 0;
+    seconds(measure, ARCHIVE, 1);
+    for (int side = 0; side < count; side++)
+        all += seconds(measure, side, 1);
+    int passes = 1 + ROUND / all * count;
     for (int round = 0; round < ROUNDS; round++) {
-        for (int turn = 0; turn < 2; turn++) {
-            int side = (round + turn) % 2;
+        for (int turn = 0; turn < count; turn++) {
+            int side = (round + turn) % count;
             times[side][round] = seconds(measure, side, passes);
         }
-        ratios[round] = times[0][round] / times[1][round];
+        for (int side = PLAIN; side < count; side++)
+            ratios[side][round] = times[ARCHIVE][round] / times[side][round];
     }
-    double calls = (double)measure->count * passes;
-    printf("%-32s %12.0f %12.0f %8.2f\n", measure->name, calls / median(times[0]), calls / median(times[1]), median(ratios));
+    print_row(measure, passes, times, ratios);
 }
 
 /* The one instruction that the emulator's log has under this name. */
@@ -413,14 +440,16 @@ __attribute__((noipa)) static void mark(void)
 {
 }
 
+/* Between the two marks every side has the same instructions beside its own. */
 static void run_marked(const struct measure *measure)
 {
-    mark();
-    for (int side = 0; side < 2; side++) {
+    int count = sides(measure->run);
+    for (int side = 0; side < count; side++) {
+        mark();
         measure->run(&SIDES[side], measure->inputs, &given[side]);
         mark();
     }
-    printf("%d %s\n", measure->count, measure->name);
+    printf("%d %d %s\n", measure->count, count, measure->name);
 }
 
 static int are_alike(void)
@@ -437,11 +466,12 @@ int main(int argc, char **argv)
     make_inputs();
     make_sheets();
     if (argc == 1 && !are_alike()) {
-        puts("the archive and plain C answer differently, or not as is said here");
+        puts("the archive, plain C and tuned C answer differently, or not as is said here");
         return 1;
     }
     if (argc == 1)
-        printf("%-32s %12s %12s %8s\n", "answers a second", "archive", "plain C", "times");
+        printf("%-32s %12s %12s %12s %14s %14s\n", "answers a second", "archive", "plain C", "tuned C", "times plain C",
+               "times tuned C");
     for (size_t i = 0; i < sizeof MEASURES / sizeof *MEASURES; i++)
         (argc == 1 ? compare : run_marked)(&MEASURES[i]);
 }
