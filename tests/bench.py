@@ -1,6 +1,6 @@
 #!/usr/bin/env python3
 """How long each call of include/buckettin.h takes, beside the same in plain C, and a point beside C that is tuned for its code:
-python3 tests/bench.py, where rt staticlib buckettin has been run and x86_64-linux-gnu-gcc is there with a static C
+python3 tests/bench.py [--held], where rt staticlib buckettin has been run and x86_64-linux-gnu-gcc is there with a static C
 library.
 
 Builds tests/bench/bench.c with the archive, with tests/bench/plain.c and with tests/bench/tuned.c, each compiled by itself, the
@@ -8,16 +8,30 @@ last at -O3 and the others at -O2, and runs it. Prints, of each call, how many a
 C and by tuned C, and how many times as long as each of these the archive takes; and, where the toolchain's emulator runs it, how
 many instructions each takes. Tuned C has the shift and the geoid height of a point, and no other call.
 
-It ends with an error where two answers differ, or where the program cannot be built or run. No time is held to a limit.
+It ends with an error where two answers differ, or where the program cannot be built or run. No time is held to a limit. With
+--held the instructions are, where they are counted: it ends with an error where the archive takes more than LIMITS allow, and
+says of which calls.
 """
 import os
 import subprocess
+import sys
 import tempfile
 
 import pages
 import plain
 import program
 import tuned
+
+# How many times as many instructions as plain C, and as tuned C, the archive may take for an answer.
+POINT, OTHER = (0.5, 2.5), (1.0,)
+LIMITS = {
+    'shift, code 1': POINT,
+    'shift, code 2': POINT,
+    'shift, code 3': POINT,
+    'shift, code 4': POINT,
+    'geoid, code 5': POINT,
+    'geoid, code 6': POINT,
+}                              # and OTHER of any other call
 
 SIDES = ['archive', 'plain C', 'tuned C']
 HEADERS = ['include', 'tests/bench']
@@ -70,6 +84,13 @@ def row(name, counts):
     return ' '.join([f'{name:32}', *cells])
 
 
+def passed(name, counts):
+    """The limits that a call passes, in words."""
+    limits = zip(SIDES[1:], counts[1:], LIMITS.get(name, OTHER))
+    return [f'{name}: {counts[0] / count:.3f} times {side}, and {limit} is the limit'
+            for side, count, limit in limits if counts[0] > limit * count]
+
+
 def main():
     with tempfile.TemporaryDirectory() as room:
         subprocess.run(built(room), check=True)
@@ -78,6 +99,10 @@ def main():
         print('\n' + head())
     for name, counts in counted:
         print(row(name, counts))
+    if '--held' in sys.argv and counted:
+        unknown = [f'{name}: has a limit, and is not counted' for name in LIMITS if name not in dict(counted)]
+        wrong = [words for name, counts in counted for words in passed(name, counts)]
+        program.ended(unknown + wrong, 'every call is within its limits')
 
 
 if __name__ == '__main__':
