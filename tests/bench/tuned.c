@@ -43,7 +43,7 @@ INLINE uint32_t answer(uint64_t sum)
     return (sum - (sum < (uint64_t)START)) / SCALE;
 }
 
-/* Put together in two registers, as it is returned: left to gcc, it takes two to four instructions more. */
+/* Put together in two registers, as it is returned: left to gcc, it takes two to five instructions more. */
 INLINE buckettin_shift_t shift_of(int64_t dlat, int64_t dlon, int64_t dh)
 {
     uint64_t words[] = {(uint64_t)answer(dlat) << 32, answer(dlon) | (uint64_t)answer(dh) << 32};
