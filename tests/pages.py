@@ -28,8 +28,10 @@ NUMBERS = [
 ]
 DIVISORS = [2, 3, 10, 3_600_000, SCALE, 2 ** 62 - 1, 2 ** 62]
 
-# The powers: document 01's small u, and the largest |v| of any area (code 6), on whose way products pass an i64.
-POWERS = [22, 39_269_908, -39_269_908, 251_327_412, -251_327_412]
+# The powers of a size: document 01's small u, the largest |v| of any area (code 6), on whose way the last product passes 64
+# bits, and the largest size of which the code works them; none of a larger one.
+POWERS = [22, 39_269_908, -39_269_908, 251_327_412, -251_327_412, 255_000_000, -255_000_000]
+TOO_LARGE = [255_000_001, -255_000_001]
 
 
 def rounded(x):
@@ -308,7 +310,7 @@ def west():
 
 
 def figures():
-    powers = [(f'{u}', b'p' + number(u), spaced(tens(u)[2:])) for u in POWERS]
+    powers = [(f'{u}', b'p' + number(u), spaced(tens(abs(u))[2:]) if u in POWERS else '') for u in POWERS + TOO_LARGE]
     return [('whole', b'', '')] + [quotients(n) for n in NUMBERS] + powers + kinds() + [west()]
 
 

@@ -14,10 +14,10 @@ fn quotient(n: i64, d: u64) {
     }
 }
 
-// The powers of u from the second to the ninth: none where u is larger than 10.
+// The powers of the size of u from the second to the ninth: none where it is larger than 2.55.
 fn powers(u: i64) {
-    if whole::size(u) <= 1_000_000_000 {
-        let p = equation::powers(whole::Parts(u));
+    if whole::size(u) <= 255_000_000 {
+        let p = equation::size_powers(whole::Parts(u));
         test_show::number(p[2]);
         test_show::number(p[3]);
         test_show::number(p[4]);
