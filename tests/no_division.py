@@ -12,9 +12,9 @@ import sys
 import program
 
 PAGES = 'target/obj/test_pages.o'
-# Functions into which the compiler puts whole::rounded and scaled, all with literal divisors: into the second with equation::sum
-# and what is asked of each datum's tables.
-HOT = ['equation::powers', 'datum::point']
+# The function into which the compiler puts whole::rounded and scaled, all with literal divisors, with equation::sum and what is
+# asked of each datum's tables.
+HOT = ['tables::Datum::values']
 
 
 def functions(path):
