@@ -1,6 +1,6 @@
 -- The codes that a sheet lists: whether they rise, and what is among them. Assumes nothing.
 use mathlib.Core.Path.{_≡_, refl, sym, ap, _∙_}
-use mathlib.Core.Bool.{Bool, true, false, not, _&&_, _||_, or-true, false≢true}
+use mathlib.Core.Bool.{Bool, true, false, not, _&&_, _||_, or-true, and-true, and-false, false≢true}
 use mathlib.Core.List.{List, [], _∷_}
 use Prim.Native.Nat.{ℕ, zero, suc, _+_, _<_, _≤_}
 use native.Mathlib.Numerals.{add-one}
@@ -8,12 +8,22 @@ use native.Mathlib.Omega.{arith}
 use lib.Dec.{eqb, leb, ltb}
 use lib.ListN.{length, drop, drop-of-length-le}
 use lib.Seq.{drop-cons}
-use borrow.Author.Tests.{eq-eqb, ne-eqb, eqb-true, ltb-true, lt-ltb, leb-true, le-leb, not-true, not-false}
+use borrow.Author.Tests.{eq-eqb, ne-eqb, eqb-true, ltb-true, lt-ltb, le-ltb, leb-true, le-leb}
 use Rattle.whole.proofs.Bools.{both, joined, either}
 use Rattle.kinds.proofs.Bytes.{at}
 use Rattle.layout.specs.Sheet.{rise, isListed}
 
 -- ---- whether they rise, a code at a time
+-- the last of them is tested for all: what is below it is at most 6 where it is
+limit-last : (before code : ℕ) (rest : Bool) → before < code → (leb code 6 && rest) ≡ (leb before 6 && (leb code 6 && rest))
+limit-last before code rest h = go (leb code 6) refl
+  where
+    go : (b : Bool) → leb code 6 ≡ b → (b && rest) ≡ (leb before 6 && (b && rest))
+    go true e =
+        let k : leb before 6 ≡ true = le-leb before 6 (omega (arith, h, leb-true code 6 e)) in
+        simp k
+    go false e = sym (and-false (leb before 6))
+
 module _ (before i : ℕ) (codes : List ℕ) where
   abbrev next : Bool
   next = ltb before (at codes i) && leb (at codes i) 6
@@ -22,15 +32,21 @@ module _ (before i : ℕ) (codes : List ℕ) where
   unfolding rise
   rise-next h = ap (rise before) (drop-cons codes i 0 h) ∙ ap (λ (k : ℕ). next && rise (at codes i) (drop k codes)) (sym (add-one i))
 
-  pub rise-stops : i < length codes → not next ≡ true → false ≡ rise before (drop i codes)
-  rise-stops h t = sym (rise-next h ∙ ap (λ (b : Bool). b && rise (at codes i) (drop (i + 1) codes)) (not-true next t))
+  -- whether those from place i on do, above one that is in range
+  abbrev pub rises-on : Bool
+  rises-on = leb before 6 && rise before (drop i codes)
 
-  pub rise-goes : i < length codes → not next ≡ false → rise (at codes i) (drop (i + 1) codes) ≡ rise before (drop i codes)
-  rise-goes h t = sym (rise-next h ∙ ap (λ (b : Bool). b && rise (at codes i) (drop (i + 1) codes)) (not-false next t))
+  pub rise-stops : i < length codes → at codes i ≤ before → false ≡ rises-on
+  rise-stops h t = sym (ap (λ (b : Bool). leb before 6 && b) (rise-next h ∙ simp (le-ltb before (at codes i) t)) ∙ and-false (leb before 6))
 
-  pub rise-ends : length codes ≤ i → true ≡ rise before (drop i codes)
+  pub rise-goes : i < length codes → before < at codes i → (leb (at codes i) 6 && rise (at codes i) (drop (i + 1) codes)) ≡ rises-on
+  rise-goes h t =
+      limit-last before (at codes i) (rise (at codes i) (drop (i + 1) codes)) t
+      ∙ sym (ap (λ (b : Bool). leb before 6 && b) (rise-next h ∙ simp (lt-ltb before (at codes i) t)))
+
+  pub rise-ends : length codes ≤ i → leb before 6 ≡ rises-on
   unfolding rise
-  rise-ends h = sym (ap (rise before) (drop-of-length-le codes h))
+  rise-ends h = sym (ap (λ (l : List ℕ). leb before 6 && rise before l) (drop-of-length-le codes h) ∙ and-true (leb before 6))
 
 -- what the first says
 rise-first : (before code : ℕ) (rest : List ℕ) → rise before (code ∷ rest) ≡ true → (before < code) × ((code ≤ 6) × (rise code rest ≡ true))

@@ -83,7 +83,7 @@ fn laid_out(sheet: &[u8]) -> LayoutAnswer
     LayoutAnswer::Gives(Layout { datums, points })
 }
 
-// Whether each code is above the one before, from 1 to 6.
+// Whether each code is above the one before, from 1 to 6: where they rise, the last is the largest.
 fn rise(codes: &[u8]) -> bool
     ensures { λ r. ⌜ r ≡ rise 0 (now (codes .entry)) ⌝ }
 {
@@ -91,11 +91,11 @@ fn rise(codes: &[u8]) -> bool
     let mut i = 0;
     while i < codes.len() {
         let code = codes[i];
-        if !((before < code) & (code <= LAST_CODE)) {
+        if code <= before {
             return false;
         }
         before = code;
         i += 1;
     }
-    true
+    before <= LAST_CODE
 }

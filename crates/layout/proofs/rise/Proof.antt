@@ -2,15 +2,15 @@
 use mathlib.Core.Path.{_≡_, refl, _∙_}
 use Prim.Native.Nat.{_-_, _≤_}
 use native.Mathlib.Omega.{arith}
-use lib.ListN.{length, drop}
+use lib.ListN.{length}
 use borrow.Author.Needs.{needs}
 use Rattle.layout.specs.Sheet.{rise}
-use Rattle.layout.proofs.Codes.{rise-stops, rise-goes, rise-ends}
+use Rattle.layout.proofs.Codes.{rises-on, rise-stops, rise-goes, rise-ends}
 use Rattle.layout.proofs.rise.Statement.{statement}
 use Rattle.layout.proofs.rise.Tie as tie
 
 abbrev Inv-loop : tie.InvT-loop
-Inv-loop codes before₀ i₀ before i = (i ≤ length codes) × (rise before (drop i codes) ≡ rise 0 codes)
+Inv-loop codes before₀ i₀ before i = (i ≤ length codes) × (rises-on before i codes ≡ rise 0 codes)
 
 abbrev μ-loop : tie.MeasureT-loop
 μ-loop codes before₀ i₀ before i = length codes - i
