@@ -4,32 +4,40 @@ use mathlib.Core.Path.{_≡_, refl, sym, ap, _∙_, subst}
 use mathlib.Core.Bool.{Bool, true, false, not}
 use mathlib.Core.List.{List, [], _∷_, _++_, map, flatMap}
 use mathlib.Core.Logic.{_⊎_, inl, inr, ⊎-elim}
-use Prim.Native.Nat.{ℕ, _+_, _-_, _*_, _<_, _≤_}
+use Prim.Native.Nat.{ℕ, suc, _+_, _-_, _*_, _<_, _≤_}
 use native.Mathlib.Omega.{arith}
 use lib.Dec.{leb}
 use lib.IntN.{ℤ}
-use lib.ListN.{length, take, drop, length-append, length-drop}
+use lib.ListN.{length, getD, take, drop, length-append, length-drop}
 use lib.Seq.{take-all}
-use borrow.Author.Tests.{le-leb, lt-leb, not-true, not-false}
+use borrow.Author.Tests.{lt-ltb, le-leb, lt-leb, not-true, not-false}
 use mir.Syntax.{w64}
 use mir.Val.{Fits, SFits, toZ, ofZ}
+use Rattle.whole.proofs.Bools.{joined}
 use Rattle.whole.proofs.Every.{every-same}
 use Rattle.whole.proofs.Words.{of}
 use Rattle.whole.specs.Every.{every}
 use Rattle.whole.specs.Places.{inPlaces}
 use Rattle.kinds.specs.Answer.{gives, refused, inOrder, placed, counted, lent}
 use Rattle.kinds.proofs.Answers.{failed, own-or-behind, all-held, held, first-or-behind, first-failed, fails, in-two, following-tests}
-use Rattle.numbers.specs.Numbers.{inBytes}
-use Rattle.layout.specs.Sheet.{serial, datums, codes, count, body, point, points, pieces, rise, isListed, serialTests, listedTests, said}
+use Rattle.kinds.proofs.Bytes.{at, length-part}
+use Rattle.numbers.specs.Numbers.{areBytes, inBytes}
+use Rattle.numbers.proofs.Numbers.{part-back}
+use Rattle.layout.specs.Sheet.{serial, datums, codes, count, body, point, points, pieces, isListed, serialTests, listedTests, said}
 use Rattle.layout.specs.Layout.{counts, layoutAnswer, laidOut, readOf}
 use Rattle.sheet.specs.Result.{inRecord, answerAt, resultOf, workOf}
-use Rattle.sheet.specs.Inside.{flags, flagOf, allFlagged, pointRecord, records, finished}
+use Rattle.sheet.specs.Inside.{flags, allFlagged, pointRecord, records, finished}
 use Rattle.layout.specs.declared.Layout.{Layout}
 use Rattle.layout.specs.declared.LayoutAnswer.{LayoutAnswer}
 use Rattle.sheet.proofs.Codes.{flagged}
 use Rattle.layout.proofs.Form.{points-counted}
-use Rattle.layout.proofs.Reading.{Laid, codes-are, front, in-front}
+use Rattle.layout.proofs.Reading.{Laid, serial-bytes, codes-are, front, in-front}
 use Rattle.sheet.proofs.Results.{records-long}
+
+-- ---- bytes
+are-bytes : (t : List ℕ) → ((i : ℕ) → at t i < 256) → areBytes t ≡ true
+are-bytes [] known = refl
+are-bytes (b ∷ t) known = joined (lt-ltb b 256 (known 0)) (are-bytes t (λ i. known (suc i)))
 
 -- ---- points and their records
 of-points : (ps : List (List ℕ)) → flatMap pointRecord ps ≡ flatMap (λ p. inRecord (answerAt p)) (map point ps)
@@ -73,17 +81,11 @@ module _ (t : List ℕ) {layout : Layout} (l : Laid t layout) where
   pub result-fits : Fits w64 (6 + n * 13)
   result-fits = record { fits = omega (arith, l .most, l .is-points) }
 
-  pub at-most : n ≤ 500
-  at-most = omega (arith, l .most, l .is-points)
-
-  pub serial-there : 4 ≤ length t
+  serial-there : 4 ≤ length t
   serial-there = omega (arith, l .long)
 
   five : 5 ≤ length t
   five = omega (arith, l .long)
-
-  pub codes-lent : rise 0 (take (5 + d - 5) (drop 5 t)) ≡ true
-  codes-lent = ap (rise 0) (codes-are t five (l .is-datums)) ∙ l .right
 
   body-is : take (length t - (5 + d + 2)) (drop (5 + d + 2) t) ≡ body t
   unfolding body
@@ -95,13 +97,30 @@ module _ (t : List ℕ) {layout : Layout} (l : Laid t layout) where
   unfolding body
   body-lent = subst (λ (b : List ℕ). n * 9 ≤ length b) (sym body-is) (omega (arith, l .long, l .is-points, length-drop (7 + datums t) t))
 
+  pub serial-lent : length (take 4 t) ≡ 4
+  serial-lent = length-part 0 4 t serial-there
+
+  pub count-lent : length (take (5 + d + 2 - (5 + d)) (drop (5 + d) t)) ≡ 2
+  count-lent =
+      let two : 5 + d + 2 - (5 + d) ≡ 2 = omega arith in
+      ap (λ (k : ℕ). length (take k (drop (5 + d) t))) two ∙ length-part (5 + d) 2 t body-start
+
+  -- what a result begins with
+  start-is : ((i : ℕ) → at t i < 256) → take 4 t ++ take (5 + d + 2 - (5 + d)) (drop (5 + d) t) ≡ inBytes 4 (serial t) ++ inBytes 2 (count t)
+  unfolding count
+  start-is known =
+      let two : 5 + d + 2 - (5 + d) ≡ 2 = omega arith in
+      let there : 5 + d ≡ 5 + datums t = omega (arith, l .is-datums) in
+      (λ i. sym (serial-bytes t (are-bytes t known) serial-there) i ++ take (two i) (drop (there i) t))
+      ∙ ap (λ (c : List ℕ). inBytes 4 (serial t) ++ c) (sym (part-back (5 + datums t) 2 t (omega (arith, l .long)) (are-bytes t known)))
+
   -- f is what `listed` answers, b what `all_listed` does, and out the lent buffer
   module _ {f : List Bool} (is-f : f ≡ flags (take (5 + d - 5) (drop 5 t))) {b : Bool} (is-b : b ≡ allFlagged f n (take (length t - (5 + d + 2)) (drop (5 + d + 2) t))) (out : List ℕ) where
     all-is : b ≡ every (λ p. isListed (codes t) (p .code)) (points t)
     unfolding allFlagged points
     all-is =
         is-b ∙ (λ i. allFlagged ((is-f ∙ ap flags (codes-are t five (l .is-datums))) i) (l .is-points i) (body-is i))
-        ∙ every-same (λ p. flagOf (flags (codes t)) (p .code)) (λ p. isListed (codes t) (p .code)) (λ p. flagged (codes t) (l .right) (p .code)) (map point (pieces (count t) 9 (body t)))
+        ∙ every-same (λ p. getD (flags (codes t)) (p .code) false) (λ p. isListed (codes t) (p .code)) (λ p. flagged (codes t) (l .right) (p .code)) (map point (pieces (count t) 9 (body t)))
 
     pub unlisted : not b ≡ true → (refused 9 ≡ counted (finished t (length out))) × (out ≡ lent (finished t (length out)) out)
     unfolding finished
@@ -112,14 +131,14 @@ module _ (t : List ℕ) {layout : Layout} (l : Laid t layout) where
       unfolding finished
       no-room h = simp (← all-is, not-false b all, lt-leb (length (resultOf (said t))) (length out) (omega (arith, h, result-long t, l .is-points))) (refl, refl)
 
-      -- s is the serial that the code reads, and new the buffer afterwards
-      pub all-written : {s : ℕ} {new : List ℕ} → 6 + n * 13 ≤ length out → s ≡ serial t
-          → new ≡ inBytes 4 s ++ inBytes 2 n ++ records n (take (length t - (5 + d + 2)) (drop (5 + d + 2) t)) ++ drop (6 + n * 13) out
+      -- new is the buffer afterwards
+      pub all-written : {new : List ℕ} → ((i : ℕ) → at t i < 256) → 6 + n * 13 ≤ length out
+          → new ≡ take 4 t ++ take (5 + d + 2 - (5 + d)) (drop (5 + d) t) ++ records n (take (length t - (5 + d + 2)) (drop (5 + d + 2) t)) ++ drop (6 + n * 13) out
           → (gives (6 + n * 13) ≡ counted (finished t (length out))) × (new ≡ lent (finished t (length out)) out)
       unfolding finished
-      all-written {s} {new} room is-s is-new =
+      all-written {new} known room is-new =
           let long : 6 + n * 13 ≡ length (resultOf (said t)) = omega (arith, result-long t, l .is-points) in
-          let bytes : inBytes 4 s ++ inBytes 2 n ++ records n (take (length t - (5 + d + 2)) (drop (5 + d + 2) t)) ≡ resultOf (said t) = (λ i. inBytes 4 (is-s i) ++ inBytes 2 (l .is-points i) ++ records (l .is-points i) (body-is i)) ∙ result-is t in
+          let bytes : take 4 t ++ take (5 + d + 2 - (5 + d)) (drop (5 + d) t) ++ records n (take (length t - (5 + d + 2)) (drop (5 + d + 2) t)) ≡ resultOf (said t) = (λ i. start-is known i ++ records (l .is-points i) (body-is i)) ∙ result-is t in
           simp (← all-is, not-false b all, le-leb (length (resultOf (said t))) (length out) (omega (arith, room, long))) (ap gives long, is-new ∙ (λ i. bytes i ++ drop (long i) out))
 
 -- ---- any sheet

@@ -5,7 +5,7 @@ use mathlib.Core.List.{List, [], _∷_, map, flatMap}
 use Prim.Native.Nat.{ℕ, suc, _+_, _-_, _*_, _<_, _≤_}
 use native.Mathlib.Omega.{arith}
 use lib.IntN.{ℤ, pos}
-use lib.ListN.{length, take, drop, length-drop}
+use lib.ListN.{length, getD, take, drop, length-drop}
 use lib.Seq.{length-take-le, getD-take, getD-drop, drop-drop}
 use mir.Syntax.{w64}
 use mir.Val.{SFits, toZ, ofZ}
@@ -25,7 +25,7 @@ use Rattle.datum.specs.declared.PointAnswer.the-variants as Said
 use Rattle.numbers.specs.Numbers.{number, inBytes, complement, signed}
 use Rattle.layout.specs.Sheet.{point, pieces}
 use Rattle.sheet.specs.Result.{inRecord}
-use Rattle.sheet.specs.Inside.{flagOf, allFlagged, recordOf, pointRecord}
+use Rattle.sheet.specs.Inside.{allFlagged, recordOf, pointRecord}
 use Rattle.numbers.proofs.Numbers.{one-read}
 
 -- the bytes of the point at i
@@ -75,7 +75,7 @@ module _ (t : List ℕ) {code longitude : ℕ} {latitude : ℤ}
 -- ---- whether each code is flagged
 module _ (flags : List Bool) (n i : ℕ) (body : List ℕ) where
   abbrev flag : Bool
-  flag = flagOf flags (at body (i * 9))
+  flag = getD flags (at body (i * 9)) false
 
   abbrev left : Bool
   left = allFlagged flags (n - i) (drop (i * 9) body)
@@ -98,7 +98,7 @@ module _ (flags : List Bool) (n i : ℕ) (body : List ℕ) where
         let a : n - i ≡ suc (n - (i + 1)) = omega arith in
         let b : i * 9 + 9 ≡ (i + 1) * 9 = omega arith in
         ap (λ (k : ℕ). allFlagged flags k (drop (i * 9) body)) a
-        ∙ (λ j. flagOf flags (code-is j) && every (λ p. flagOf flags (p .code)) (map point (pieces (n - (i + 1)) 9 ((drop-drop 9 (i * 9) body ∙ ap (λ (k : ℕ). drop k body) b) j))))
+        ∙ (λ j. getD flags (code-is j) false && every (λ p. getD flags (p .code) false) (map point (pieces (n - (i + 1)) 9 ((drop-drop 9 (i * 9) body ∙ ap (λ (k : ℕ). drop k body) b) j))))
 
     pub flag-missing : false ≡ flag → false ≡ left
     flag-missing e = ap (λ (b : Bool). b && rest) e ∙ sym flag-next

@@ -1,20 +1,18 @@
 -- A result that grows by a record at its end. Assumes nothing.
 use mathlib.Core.Path.{_≡_, refl, sym, ap, _∙_}
-use mathlib.Core.List.{List, [], _∷_, _++_, flatMap, append-nil, append-assoc}
-use Prim.Native.Nat.{ℕ, zero, suc, _+_, _-_, _*_, _/_, _%_, _≤_}
+use mathlib.Core.List.{List, [], _++_, flatMap, append-nil, append-assoc}
+use Prim.Native.Nat.{ℕ, zero, suc, _+_, _-_, _*_, _≤_}
 use native.Mathlib.Numerals.{add-one}
 use native.Mathlib.Omega.{arith}
 use lib.ListN.{length, take, drop, length-append, length-drop}
 use lib.Seq.{take-length, drop-drop}
 use borrow.Rule.Slice.PartMut.{putMid}
 use Rattle.whole.specs.Places.{inPlaces}
-use Rattle.kinds.proofs.Bytes.{at}
 use Rattle.kinds.proofs.Writing.{grown}
 use Rattle.numbers.specs.Numbers.{inBytes}
 use Rattle.layout.specs.Sheet.{pieces}
 use Rattle.sheet.specs.Result.{inRecord}
 use Rattle.sheet.specs.Inside.{pointRecord, records}
-use Rattle.numbers.proofs.Numbers.{two-written}
 
 -- ---- how long
 pub point-record-long : (t : List ℕ) → length (pointRecord t) ≡ 13
@@ -58,19 +56,16 @@ unfolding records pieces flatMap
 no-records body = refl
 
 -- ---- the start of a result, and its records
-module _ (serial points : ℕ) where
-  pub start-is : (s : List ℕ) → s ≡ inBytes 4 serial → points ≤ 500 → at s 0 ∷ at s 1 ∷ at s 2 ∷ at s 3 ∷ points / 256 ∷ points % 256 ∷ [] ≡ inBytes 4 serial ++ inBytes 2 points
-  unfolding inBytes inPlaces
-  start-is s e most = (λ i. at (e i) 0 ∷ at (e i) 1 ∷ at (e i) 2 ∷ at (e i) 3 ∷ two-written points (omega arith) i)
+module _ (serial count : List ℕ) (four : length serial ≡ 4) (two : length count ≡ 2) where
+  start-long : length (serial ++ count) ≡ 6
+  start-long = omega (arith, length-append serial count, four, two)
 
-  start-long : length (inBytes 4 serial ++ inBytes 2 points) ≡ 6
-  unfolding inBytes inPlaces
-  start-long = refl
-
-  pub put-is : (body d0 d new start : List ℕ) → start ≡ inBytes 4 serial ++ inBytes 2 points
-      → d ≡ take (length start) start ++ drop (length start) d0 → new ≡ records points body ++ drop (points * 13) (take (length d - 6) (drop 6 d))
-      → putMid 6 (length d - 6) d new ≡ inBytes 4 serial ++ inBytes 2 points ++ records points body ++ drop (6 + points * 13) d0
-  put-is body d0 d new start is-start is-d is-new =
-      let six : length start ≡ 6 = ap length is-start ∙ start-long in
-      let e : d ≡ inBytes 4 serial ++ inBytes 2 points ++ drop 6 d0 = is-d ∙ (λ i. (take-length start ∙ is-start) i ++ drop (six i) d0) in
-      rw (is-new, e) (grown (inBytes 4 serial ++ inBytes 2 points) d0 (records points body) 6 (points * 13) start-long)
+  -- d0 is the buffer as it came, d and e with the serial and with the count in it
+  pub put-is : (points : ℕ) (body d0 : List ℕ) {d counted e new : List ℕ} → d ≡ take (length serial) serial ++ drop (length serial) d0
+      → counted ≡ take (length count) count ++ drop (length count) (take (length d - 4) (drop 4 d)) → e ≡ putMid 4 (length d - 4) d counted
+      → new ≡ records points body ++ drop (points * 13) (take (length e - 6) (drop 6 e))
+      → putMid 6 (length e - 6) e new ≡ serial ++ count ++ records points body ++ drop (6 + points * 13) d0
+  put-is points body d0 {d} {counted} {e} {new} is-d is-counted is-e is-new =
+      let first : d ≡ serial ++ drop 4 d0 = is-d ∙ (λ i. take-length serial i ++ drop (four i) d0) in
+      let second : e ≡ serial ++ count ++ drop 6 d0 = is-e ∙ rw (is-counted, take-length count, two, first) (grown serial d0 count 4 2 four) in
+      rw (is-new, second) (grown (serial ++ count) d0 (records points body) 6 (points * 13) start-long)

@@ -1,8 +1,7 @@
 -- What the private functions of this crate promise one another.
-use mathlib.Core.Bool.{Bool, false, _&&_}
+use mathlib.Core.Bool.{Bool, false}
 use mathlib.Core.List.{List, [], _∷_, map, flatMap}
 use Prim.Native.Nat.{ℕ, zero, suc}
-use lib.Dec.{leb}
 use lib.IntN.{ℤ}
 use lib.ListN.{getD}
 use Rattle.whole.specs.Every.{every}
@@ -17,16 +16,12 @@ abbrev pub flagsFrom : ℕ → ℕ → List ℕ → List Bool
 flagsFrom zero code codes = []
 flagsFrom (suc n) code codes = isListed codes code ∷ flagsFrom n (suc code) codes
 
--- and of 0 to 6
+-- and of every byte
 unfoldable pub flags : List ℕ → List Bool
-flags codes = flagsFrom 7 0 codes
-
--- a code's flag, whatever the byte
-unfoldable pub flagOf : List Bool → ℕ → Bool
-flagOf flags code = leb code 6 && getD flags code false
+flags codes = flagsFrom 256 0 codes
 
 unfoldable pub allFlagged : List Bool → ℕ → List ℕ → Bool
-allFlagged flags n body = every (λ p. flagOf flags (p .code)) (map point (pieces n pointLength body))
+allFlagged flags n body = every (λ p. getD flags (p .code) false) (map point (pieces n pointLength body))
 
 -- ---- working
 -- three values beside a refusal number or 0

@@ -12,8 +12,7 @@ ghost use Prim.Native.Nat.{_+_, _*_, _≤_};
 ghost use lib.ListN.{length, drop};
 ghost use Rattle.kinds.specs.Answer.{gives, counted, lent};
 ghost use Rattle.kinds.specs.Cases.{written};
-ghost use Rattle.numbers.specs.Numbers.{inBytes};
-ghost use Rattle.layout.specs.Sheet.{pointLength, rise};
+ghost use Rattle.layout.specs.Sheet.{pointLength};
 ghost use Rattle.layout.specs.Layout.{laidOut};
 ghost use Rattle.sheet.specs.Result.{recordLength, workOf};
 ghost use Rattle.sheet.specs.Inside.{flags, allFlagged, recordOf, pointRecord, records, finished};
@@ -38,12 +37,11 @@ const START: usize = layout::SERIAL + layout::COUNT;
 
 const RECORD: usize = 13;
 
-// By code, from 0, whether it is listed.
-fn listed(codes: &[u8]) -> [bool; 7]
-    requires { ⌜ rise 0 (now codes) ≡ true ⌝ }
+// By code, whatever the byte, whether it is listed.
+fn listed(codes: &[u8]) -> [bool; 256]
     ensures { λ r. ⌜ r ≡ flags (now (codes .entry)) ⌝ }
 {
-    let mut flags = [false; 7];
+    let mut flags = [false; 256];
     let mut i = 0;
     while i < codes.len() {
         flags[codes[i] as usize] = true;
@@ -53,17 +51,13 @@ fn listed(codes: &[u8]) -> [bool; 7]
 }
 
 // Whether every point's code is listed.
-fn all_listed(body: &[u8], points: usize, listed: [bool; 7]) -> bool
+fn all_listed(body: &[u8], points: usize, listed: [bool; 256]) -> bool
     requires { ⌜ points * pointLength ≤ length (now body) ⌝ }
     ensures { λ r. ⌜ r ≡ allFlagged listed points (now (body .entry)) ⌝ }
 {
     let mut i = 0;
     while i < points {
-        let code = body[i * layout::POINT];
-        if layout::LAST_CODE < code {
-            return false;
-        }
-        if !listed[code as usize] {
+        if !listed[body[i * layout::POINT] as usize] {
             return false;
         }
         i += 1;
@@ -130,23 +124,16 @@ fn records(body: &[u8], points: usize, out: &mut [u8])
     }
 }
 
-// The serial, the count and the records, at the start of a result that has room for them.
-fn put(serial: u32, body: &[u8], points: usize, result: &mut [u8])
-    requires { ⌜ points ≤ 500 ⌝ }
+// The serial and the count of points, as the sheet has them, and the records, at the start of a result that has room for them.
+fn put(serial: &[u8], count: &[u8], body: &[u8], points: usize, result: &mut [u8])
+    requires { ⌜ length (now serial) ≡ 4 ⌝ }
+    requires { ⌜ length (now count) ≡ 2 ⌝ }
     requires { ⌜ points * pointLength ≤ length (now body) ⌝ }
     requires { ⌜ 6 + points * recordLength ≤ length (now result) ⌝ }
-    ensures { λ _. ⌜ now (result .exit) ≡ inBytes 4 serial ++ inBytes 2 points ++ records points (now (body .entry)) ++ drop (6 + points * recordLength) (now (result .entry)) ⌝ }
+    ensures { λ _. ⌜ now (result .exit) ≡ now (serial .entry) ++ now (count .entry) ++ records points (now (body .entry)) ++ drop (6 + points * recordLength) (now (result .entry)) ⌝ }
 {
-    let s = numbers::in_four(serial);
-    let head = [
-        s[0],
-        s[1],
-        s[2],
-        s[3],
-        (points / 256) as u8,
-        (points % 256) as u8,
-    ];
-    bytes::copy(&head, result);
+    bytes::copy(serial, result);
+    bytes::copy(count, &mut result[layout::SERIAL..]);
     records(body, points, &mut result[START..]);
 }
 
@@ -159,7 +146,8 @@ fn finished(layout: Layout, sheet: &[u8], result: &mut [u8]) -> WrittenAnswer
     let points = layout.points;
     let bytes = START + points * RECORD;
     let count_at = layout::CODES + layout.datums;
-    let body = &sheet[count_at + layout::COUNT..];
+    let body_at = count_at + layout::COUNT;
+    let body = &sheet[body_at..];
     let all = all_listed(body, points, listed(&sheet[layout::CODES..count_at]));
     if !all {
         return WrittenAnswer::Refused(Refusal::Sheet);
@@ -167,6 +155,7 @@ fn finished(layout: Layout, sheet: &[u8], result: &mut [u8]) -> WrittenAnswer
     if result.len() < bytes {
         return WrittenAnswer::Refused(Refusal::Room);
     }
-    put(numbers::four(sheet, 0), body, points, result);
+    let serial = &sheet[..layout::SERIAL];
+    put(serial, &sheet[count_at..body_at], body, points, result);
     WrittenAnswer::Gives(bytes)
 }

@@ -6,7 +6,6 @@ use lib.ListN.{drop}
 use borrow.Author.Needs.{needs}
 use borrow.Author.Tests.{not-true, not-false}
 use Rattle.sheet.specs.Inside.{allFlagged}
-use Rattle.sheet.proofs.Codes.{flag-high, flag-low}
 use Rattle.sheet.proofs.Points.{flag-missing, flag-found, flags-end}
 use Rattle.sheet.proofs.all_listed.Statement.{statement}
 use Rattle.sheet.proofs.all_listed.Tie as tie
@@ -22,30 +21,23 @@ loop-holds c =
     let same : c .args .points - 0 ≡ c .args .points = omega arith in
     (omega arith, ap (λ (n : ℕ). allFlagged (c .args .t3) n (c .args .body .now)) same)
 
-mul-code : tie.Need-mul-code Inv-loop μ-loop
-mul-code c = search needs
+mul-if1 : tie.Need-mul-if1 Inv-loop μ-loop
+mul-if1 c = search needs
 
-shared-slice-read-code : tie.Need-shared-slice-read-code Inv-loop μ-loop
-shared-slice-read-code c = search needs
+shared-slice-read-if1 : tie.Need-shared-slice-read-if1 Inv-loop μ-loop
+shared-slice-read-if1 c = search needs
+
+cast-if1 : tie.Need-cast-if1 Inv-loop μ-loop
+cast-if1 c = record { fits = omega (arith, c .shared-slice-known .given (c .before .before .loop .i * 9)) }
+
+array-read-if1 : tie.Need-array-read-if1 Inv-loop μ-loop
+array-read-if1 c = omega (arith, c .shared-slice-known .given (c .before .before .loop .i * 9))
 
 returns : tie.Need-returns Inv-loop μ-loop
 returns c =
     let loop = c .before .before .before .loop in
     let s = c .before .before .before .before in
-    flag-missing (s .args .t3) (s .args .points) (loop .i) (s .args .body .now) (c .before .before .loop-test .taken) (s .pre) (flag-high _ _ (c .if1 .taken))
-    ∙ loop .inv .1
-
-cast-if2 : tie.Need-cast-if2 Inv-loop μ-loop
-cast-if2 c = search needs
-
-array-read-if2 : tie.Need-array-read-if2 Inv-loop μ-loop
-array-read-if2 c = search needs
-
-returns-2 : tie.Need-returns-2 Inv-loop μ-loop
-returns-2 c =
-    let loop = c .before .before .before .before .loop in
-    let s = c .before .before .before .before .before in
-    flag-missing (s .args .t3) (s .args .points) (loop .i) (s .args .body .now) (c .before .before .before .loop-test .taken) (s .pre) (sym (not-true _ (c .if2 .taken)) ∙ flag-low _ _ (c .before .if1 .left))
+    flag-missing (s .args .t3) (s .args .points) (loop .i) (s .args .body .now) (c .before .before .loop-test .taken) (s .pre) (sym (not-true _ (c .if1 .taken)))
     ∙ loop .inv .1
 
 add-i : tie.Need-add-i Inv-loop μ-loop
@@ -56,16 +48,16 @@ loop-less c = search needs
 
 loop-again : tie.Need-loop-again Inv-loop μ-loop
 loop-again c =
-    let loop = c .before .before .before .before .loop in
-    let s = c .before .before .before .before .before in
-    let test = c .before .before .before .loop-test .taken in (
+    let loop = c .before .before .before .loop in
+    let s = c .before .before .before .before in
+    let test = c .before .before .loop-test .taken in (
       omega (arith, test),
-      flag-found (s .args .t3) (s .args .points) (loop .i) (s .args .body .now) test (s .pre) (sym (not-false _ (c .if2 .left)) ∙ flag-low _ _ (c .before .if1 .left))
+      flag-found (s .args .t3) (s .args .points) (loop .i) (s .args .body .now) test (s .pre) (sym (not-false _ (c .if1 .left)))
           ∙ loop .inv .1,
     )
 
-returns-3 : tie.Need-returns-3 Inv-loop μ-loop
-returns-3 c =
+returns-2 : tie.Need-returns-2 Inv-loop μ-loop
+returns-2 c =
     let loop = c .before .loop in
     let s = c .before .before in
     flags-end (s .args .t3) (s .args .points) (loop .i) (s .args .body .now) (c .loop-test .left) ∙ loop .inv .1
@@ -77,13 +69,12 @@ all-listed-spec =
     Inv-loop
     μ-loop
     loop-holds
-    mul-code
-    shared-slice-read-code
+    mul-if1
+    shared-slice-read-if1
+    cast-if1
+    array-read-if1
     returns
-    cast-if2
-    array-read-if2
-    returns-2
     add-i
     loop-less
     loop-again
-    returns-3)
+    returns-2)

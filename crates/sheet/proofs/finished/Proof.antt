@@ -1,7 +1,9 @@
 -- `sheet::finished` meets its contract. Assumes nothing.
+use mathlib.Core.Path.{sym}
+use native.Mathlib.Omega.{arith}
 use borrow.Author.Needs.{needs}
-use Rattle.layout.proofs.Reading.{serial-is, laid}
-use Rattle.sheet.proofs.Calls.{codes-end, body-start, five-more, seven-more, records-fit, result-fits, at-most, serial-there, codes-lent, body-lent, unlisted, no-room, all-written}
+use Rattle.layout.proofs.Reading.{laid}
+use Rattle.sheet.proofs.Calls.{codes-end, body-start, five-more, seven-more, records-fit, result-fits, body-lent, serial-lent, count-lent, unlisted, no-room, all-written}
 use Rattle.sheet.proofs.finished.Statement.{statement}
 use Rattle.sheet.proofs.finished.Tie as tie
 
@@ -14,8 +16,8 @@ add-bytes c = result-fits _ (laid _ _ (c .before .before .pre))
 add-count-at : tie.Need-add-count-at
 add-count-at c = five-more _ (laid _ _ (c .before .before .before .pre))
 
-add-body : tie.Need-add-body
-add-body c = seven-more _ (laid _ _ (c .before .before .before .pre))
+add-body-at : tie.Need-add-body-at
+add-body-at c = seven-more _ (laid _ _ (c .before .before .before .pre))
 
 sub-body : tie.Need-sub-body
 sub-body c = body-start _ (laid _ _ (c .before .before .before .pre))
@@ -36,7 +38,7 @@ part-listed-end : tie.Need-part-listed-end
 part-listed-end c = codes-end _ (laid _ _ (c .before .before .before .before .pre))
 
 listed-requires : tie.Need-listed-requires
-listed-requires c κs = codes-lent _ (laid _ _ (c .before .before .before .before .before .pre))
+listed-requires c κs = search needs
 
 all-listed-requires : tie.Need-all-listed-requires
 all-listed-requires c κs = body-lent _ (laid _ _ (c .before .before .before .before .before .before .pre))
@@ -47,21 +49,31 @@ returns c = unlisted _ (laid _ _ (c .before .before .before .before .before .bef
 returns-2 : tie.Need-returns-2
 returns-2 c = no-room _ (laid _ _ (c .before .before .before .before .before .before .before .before .before .pre)) (c .before .before .before .listed .ensures) (c .before .before .all-listed .ensures) _ (c .before .if1 .left) (c .if2 .taken)
 
-four-requires : tie.Need-four-requires
-four-requires c κs = serial-there _ (laid _ _ (c .before .before .before .before .before .before .before .before .before .pre))
+slice-aggregate-serial : tie.Need-slice-aggregate-serial
+slice-aggregate-serial c = sym (serial-lent _ (laid _ _ (c .before .before .before .before .before .before .before .before .before .before .pre)))
+
+sub-put : tie.Need-sub-put
+sub-put c = search needs
+
+part-put-start : tie.Need-part-put-start
+part-put-start c = search needs
+
+part-put-end : tie.Need-part-put-end
+part-put-end c = body-start _ (laid _ _ (c .before .before .before .before .before .before .before .before .before .before .pre))
 
 put-requires : tie.Need-put-requires
 put-requires c κs =
-    let told = laid _ _ (c .before .before .before .before .before .before .before .before .before .before .before .pre) in
-    (at-most _ told, (body-lent _ told, c .before .before .if2 .left))
+    let told = laid _ _ (c .before .before .before .before .before .before .before .before .before .before .before .before .pre) in
+    (serial-lent _ told, (count-lent _ told, (body-lent _ told, c .before .before .before .if2 .left)))
 
 same-length : tie.Need-same-length
 same-length c = search needs
 
 returns-3 : tie.Need-returns-3
 returns-3 c =
-    let told = laid _ _ (c .before .before .before .before .before .before .before .before .before .before .before .before .before .before .pre) in
-    all-written _ told (c .before .before .before .before .before .before .before .before .listed .ensures) (c .before .before .before .before .before .before .before .all-listed .ensures) _ (c .before .before .before .before .before .before .if1 .left) (c .before .before .before .before .before .if2 .left) (serial-is _ (c .before .before .before .before .four .ensures)) (c .before .before .put .ensures)
+    let all = c .before .before .before .before .before .before .before .before in
+    let bytes = c .before .before .before .before .before .before .before .before .before .before .before .before .before .before in
+    all-written _ (laid _ _ (bytes .before .pre)) (all .before .listed .ensures) (all .all-listed .ensures) _ (c .before .before .before .before .before .before .before .if1 .left) (λ i. omega (arith, bytes .shared-slice-known .given i)) (c .before .before .before .before .before .before .if2 .left) (c .before .before .put .ensures)
 
 pub finished-spec : {M : Type 1} → statement M
 finished-spec =
@@ -70,7 +82,7 @@ finished-spec =
     mul-bytes
     add-bytes
     add-count-at
-    add-body
+    add-body-at
     sub-body
     part-body-start
     part-body-end
@@ -81,7 +93,10 @@ finished-spec =
     all-listed-requires
     returns
     returns-2
-    four-requires
+    slice-aggregate-serial
+    sub-put
+    part-put-start
+    part-put-end
     put-requires
     same-length
     returns-3)

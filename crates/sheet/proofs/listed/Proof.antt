@@ -8,7 +8,6 @@ use lib.ListN.{length, getD, set, take}
 use lib.Seq.{take-all}
 use borrow.Author.Needs.{needs}
 use Rattle.sheet.specs.Inside as inside
-use Rattle.layout.proofs.Codes.{six}
 use Rattle.sheet.proofs.Codes.{none-flagged, flag-next}
 use Rattle.sheet.proofs.listed.Statement.{statement}
 use Rattle.sheet.proofs.listed.Tie as tie
@@ -26,10 +25,10 @@ shared-slice-read-flags : tie.Need-shared-slice-read-flags Inv-loop μ-loop
 shared-slice-read-flags c = search needs
 
 cast-flags : tie.Need-cast-flags Inv-loop μ-loop
-cast-flags c = record { fits = omega (arith, six 0 _ (c .before .before .before .pre) _ (c .before .loop-test .taken) .1) }
+cast-flags c = record { fits = omega (arith, c .shared-slice-known .given (c .before .before .loop .i)) }
 
 array-write-flags : tie.Need-array-write-flags Inv-loop μ-loop
-array-write-flags c = omega (arith, six 0 _ (c .before .before .before .pre) _ (c .before .loop-test .taken) .1)
+array-write-flags c = omega (arith, c .shared-slice-known .given (c .before .before .loop .i))
 
 add-i : tie.Need-add-i Inv-loop μ-loop
 add-i c = search needs
@@ -42,7 +41,7 @@ loop-again c =
     let loop = c .before .before .loop in
     let test = c .before .loop-test .taken in
     let codes = c .before .before .before .args .codes .now in
-    (omega (arith, test), ap (λ (l : List Bool). set l (getD codes (loop .i) 0) true) (loop .inv .1) ∙ flag-next codes (loop .i) (c .before .before .before .pre) test)
+    (omega (arith, test), ap (λ (l : List Bool). set l (getD codes (loop .i) 0) true) (loop .inv .1) ∙ flag-next codes (loop .i) (omega (arith, c .shared-slice-known .given (loop .i))) test)
 
 returns : tie.Need-returns Inv-loop μ-loop
 returns c = c .before .loop .inv .1 ∙ ap inside.flags (take-all _ _ (c .loop-test .left))
