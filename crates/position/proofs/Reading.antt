@@ -1,18 +1,19 @@
 -- What each return of a reading answers, by the tests that led there. Assumes nothing.
-use mathlib.Core.Path.{_≡_, refl, sym, _∙_}
-use mathlib.Core.Bool.{Bool, true, false, _&&_, not, cond}
+use mathlib.Core.Path.{_≡_, refl, sym, ap, _∙_}
+use mathlib.Core.Bool.{Bool, true, false, _&&_, not, and-false, false≢true}
 use mathlib.Core.List.{List}
-use Prim.Native.Nat.{ℕ, _<_, _≤_}
+use Prim.Native.Nat.{ℕ, _≤_}
 use native.Mathlib.Omega.{arith}
 use lib.Dec.{eqb}
 use lib.IntN.{ℤ, pos, negℤ}
 use lib.ListN.{length}
-use borrow.Author.Tests.{eq-eqb, ne-eqb}
-use Rattle.whole.proofs.Bools.{joined}
+use lib.Signed.{leZ}
+use borrow.Author.Tests.{lt-leb, eq-eqb, ne-eqb}
+use Rattle.whole.proofs.Bools.{by-test}
 use Rattle.kinds.specs.Answer.{Answer, gives, refused, provided}
-use Rattle.kinds.specs.Kinds.{tested}
+use Rattle.kinds.specs.Kinds.{isLongitude, tested}
 use Rattle.position.specs.Inside.{says}
-use Rattle.position.specs.Text.{Coordinate, letterS, textLength, letter, isLetter, isAngle, inSixties, angle, hasText, rightKinds, value, rightRanges, read}
+use Rattle.position.specs.Text.{Coordinate, letterS, textLength, letter, inSixties, angle, hasText, rightKinds, value, rightRanges, read}
 
 -- tests of which two fail, whatever the third
 pub two-fail : (a b c : Bool) → (a && c) ≡ false → ((a && b) && c) ≡ false
@@ -24,6 +25,10 @@ two-fail true true c h = h
 in-turn : {A : Type 0} (a b : Bool) (n : ℕ) (answer : Answer A) → provided a n (provided b n answer) ≡ provided (a && b) n answer
 in-turn false b n answer = refl
 in-turn true b n answer = refl
+
+refused-anyway : {A : Type 0} (a : Bool) (n : ℕ) → _≡_ {A = Answer A} (provided a n (refused n)) (refused n)
+refused-anyway false n = refl
+refused-anyway true n = refl
 
 -- ---- both texts
 module _ (k : Coordinate) (t : List ℕ) where
@@ -44,33 +49,44 @@ module _ (k : Coordinate) (t : List ℕ) where
       pub wrong-range : inSixties k t ≡ false → refused 3 ≡ read k t
       wrong-range h = sym (right-length long ∙ simp (kinds, h))
 
-      -- the rest is for the constructor to test, once S after zero is refused
-      module _ (sixties : inSixties k t ≡ true) where
+      -- the rest is for the constructor to test, once S after zero is refused: of the ms, or of a number that it refuses
+      module _ {n : ℕ} (ms : inSixties k t ≡ true → n ≡ angle k t) where
         abbrev x : ℤ
         x = negℤ (pos (angle k t))
 
-        pub south : letter k t ≡ letterS → provided (not (eqb (angle k t) 0)) 3 (tested (hasText k x) x) ≡ read k t
-        south h = sym (right-length long ∙ simp (kinds, sixties, eq-eqb (letter k t) letterS h) (sym (in-turn (not (eqb (angle k t) 0)) (hasText k x) 3 (gives x))))
+        pub south : letter k t ≡ letterS → (inSixties k t ≡ false → hasText k (negℤ (pos n)) ≡ false) → provided (not (eqb n 0)) 3 (tested (hasText k (negℤ (pos n))) (negℤ (pos n))) ≡ read k t
+        south h none =
+            by-test (inSixties k t)
+            (λ e.
+            ap (λ (m : ℕ). provided (not (eqb m 0)) 3 (tested (hasText k (negℤ (pos m))) (negℤ (pos m)))) (ms e)
+            ∙ sym (right-length long ∙ simp (kinds, e, eq-eqb (letter k t) letterS h) (sym (in-turn (not (eqb (angle k t) 0)) (hasText k x) 3 (gives x)))))
+            (λ e. simp (none e) (refused-anyway (not (eqb n 0)) 3) ∙ wrong-range e)
 
-        pub not-south : (letter k t ≡ letterS → ⊥) → tested (hasText k (pos (angle k t))) (pos (angle k t)) ≡ read k t
-        not-south h = sym (right-length long ∙ simp (kinds, sixties, ne-eqb (letter k t) letterS h))
+        pub not-south : (letter k t ≡ letterS → ⊥) → (inSixties k t ≡ false → hasText k (pos n) ≡ false) → tested (hasText k (pos n)) (pos n) ≡ read k t
+        not-south h none =
+            by-test (inSixties k t)
+            (λ e. ap (λ (m : ℕ). tested (hasText k (pos m)) (pos m)) (ms e) ∙ sym (right-length long ∙ simp (kinds, e, ne-eqb (letter k t) letterS h)))
+            (λ e. simp (none e) (wrong-range e))
 
 -- ---- what one number says of an angle
--- it is refused, whatever letter may end it
-pub refused-angle : (k : Coordinate) (t : List ℕ) (a s : Bool) (m : ℕ) {n : ℕ} → length t ≡ textLength k → isLetter k (letter k t) ≡ true
-    → isAngle k t ≡ a → inSixties k t ≡ s → says n a s m → 1000000002 ≤ n → refused (cond (eqb n 1000000002) 2 3) ≡ read k t
-refused-angle k t false s m {n} long lettered angles sixties is h = simp (eq-eqb n 1000000002 is) (wrong-kind k t long (simp angles))
-refused-angle k t true false m {n} long lettered angles sixties is h = simp is (wrong-range k t long (joined angles lettered) sixties)
-refused-angle k t true true m long lettered angles sixties is h = absurd (omega (arith, is .0, is .1, h))
+-- that its bytes are not of their kind
+pub not-said : (a s : Bool) (m : ℕ) {n : ℕ} → says n a s m → n ≡ 1296000001 → a ≡ false
+not-said false s m is h = refl
+not-said true false m is h = absurd (omega (arith, is, h))
+not-said true true m is h = absurd (omega (arith, is .0, is .1, h))
 
--- or its ms were read
+-- or that they are, and its ms, or a number that no kind takes
 pub record Said (a s : Bool) (m n : ℕ) : Type 0 where
   pub kinds : a ≡ true
-  pub sixties : s ≡ true
-  pub ms : n ≡ m
-  pub small : n < 1000000000
+  pub small : n ≤ 1296000000
+  pub ms : s ≡ true → n ≡ m
+  pub none : s ≡ false → n ≡ 1296000000
 
-pub said : (a s : Bool) (m : ℕ) {n : ℕ} → says n a s m → n < 1000000002 → Said a s m n
-said false s m is h = absurd (omega (arith, is, h))
-said true false m is h = absurd (omega (arith, is, h))
-said true true m is h = record { kinds = refl; sixties = refl; ms = is .0; small = omega (arith, is .0, is .1) }
+pub said : (a s : Bool) (m : ℕ) {n : ℕ} → says n a s m → (n ≡ 1296000001 → ⊥) → Said a s m n
+said false s m is h = absurd (h is)
+said true false m is h = record { kinds = refl; small = omega (arith, is); ms = λ e. absurd (false≢true e); none = λ e. is }
+said true true m is h = record { kinds = refl; small = omega (arith, is .0, is .1); ms = λ e. is .0; none = λ e. absurd (false≢true (sym e)) }
+
+-- a whole turn and more is no longitude
+pub past-a-turn : (n : ℕ) → 1296000000 ≤ n → isLongitude (pos n) ≡ false
+past-a-turn n h = simp (lt-leb n 1295999999 (omega (arith, h))) (and-false (leZ (pos 0) (pos n)))

@@ -11,8 +11,8 @@ use Rattle.position.specs.Text.{latitude, minutes, seconds, thousandths,
 
 -- what a number says: that bytes are not of their kind, that minutes or seconds are from 60 up, or the ms
 abbrev pub says : ℕ → Bool → Bool → ℕ → Type 0
-says n false sixties ms = n ≡ 1000000002
-says n true false ms = n ≡ 1000000003
+says n false sixties ms = n ≡ 1296000001
+says n true false ms = n ≡ 1296000000
 says n true true ms = (n ≡ ms) × (ms < 1000000000)
 
 -- of a text of a latitude's form

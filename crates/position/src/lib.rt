@@ -9,13 +9,13 @@ use kinds::WrittenAnswer;
 use kinds::put;
 use numbers::four;
 ghost use mathlib.Core.Path.{_≡_};
-ghost use mathlib.Core.Bool.{true, not, cond};
+ghost use mathlib.Core.Bool.{true, not};
 ghost use Prim.Native.Nat.{_+_, _%_, _<_, _≤_};
 ghost use lib.Dec.{eqb};
 ghost use lib.IntN.{pos, negℤ};
 ghost use lib.ListN.{length};
 ghost use Rattle.whole.specs.Digits.{isDigit, digitOf, fromDigits};
-ghost use Rattle.kinds.specs.Answer.{provided, numberOf, counted, lent};
+ghost use Rattle.kinds.specs.Answer.{provided, counted, lent};
 ghost use Rattle.kinds.specs.Cases.{localLatitude, localLongitude, written};
 ghost use Rattle.kinds.specs.Kinds.{isLatitude, tested};
 ghost use Rattle.position.specs.Inside.{figures, inPairs, saysAngle};
@@ -34,8 +34,8 @@ pub fn read_latitude(text: &[u8]) -> LocalLatitudeAnswer
         return LocalLatitudeAnswer::Refused(Refusal::Kind);
     }
     let ms = read_angle(text);
-    if WRONG_KIND <= ms {
-        return LocalLatitudeAnswer::Refused(why(ms));
+    if ms == WRONG_KIND {
+        return LocalLatitudeAnswer::Refused(Refusal::Kind);
     }
     if letter == b'S' {
         return southern(ms);
@@ -57,8 +57,8 @@ pub fn read_longitude(text: &[u8]) -> LocalLongitudeAnswer
         return LocalLongitudeAnswer::Refused(Refusal::Kind);
     }
     let ms = read_angle(&text[1..]);
-    if WRONG_KIND <= ms {
-        return LocalLongitudeAnswer::Refused(why(ms));
+    if ms == WRONG_KIND {
+        return LocalLongitudeAnswer::Refused(Refusal::Kind);
     }
     LocalLongitude::new((digit(hundreds) * HUNDRED_DEGREES + ms) as i64)
 }
@@ -105,10 +105,11 @@ const DEGREE: u64 = LocalLatitude::DEGREE as u64;
 
 const HUNDRED_DEGREES: u64 = 100 * DEGREE;
 
-// what `read_angle` answers where it refuses: no bytes say so many ms
-const WRONG_KIND: u64 = 1_000_000_002;
+// what `read_angle` answers where minutes or seconds are from 60 up: a whole turn, which no kind takes
+const WRONG_RANGE: u64 = 360 * DEGREE;
 
-const WRONG_RANGE: u64 = 1_000_000_003;
+// and where a byte is not of its kind
+const WRONG_KIND: u64 = WRONG_RANGE + 1;
 
 // the bits of `figures` that are none where its bytes are digits and a point
 const NO_FIGURE: u64 = 0xF0F0_F0F0_FFF0_F0F0;
@@ -136,18 +137,19 @@ fn digit(b: u8) -> u64
 }
 
 // Of the 11 bytes of a latitude's form: the ms that those before the letter say, or why they say none. One number, since an
-// enum would go through memory.
+// enum would go through memory. So would t, if it were handed on as it came: `all` is a part of it, with every byte.
 fn read_angle(t: &[u8]) -> u64
     requires { ⌜ length (now t) ≡ 11 ⌝ }
     ensures { λ r. ⌜ saysAngle r (now (t .entry)) ⌝ }
 {
-    if !is_angle(t) {
+    let all = &t[0..];
+    if !is_angle(all) {
         return WRONG_KIND;
     }
-    if !in_sixties(t) {
+    if !in_sixties(all) {
         return WRONG_RANGE;
     }
-    angle(t)
+    angle(all)
 }
 
 // They are digits and a point. A digit is 0x30 to 0x39, so what `figures` leaves of it is below 16, and still is with 6 more;
@@ -214,20 +216,9 @@ fn angle(t: &[u8]) -> u64
         + (word / TENTHS % 256 * 100 + word % 256)
 }
 
-// The refusal of an angle that `read_angle` refused.
-fn why(n: u64) -> Refusal
-    ensures { λ r. ⌜ numberOf r ≡ cond (eqb n 1_000_000_002) 2 3 ⌝ }
-{
-    if n == WRONG_KIND {
-        Refusal::Kind
-    } else {
-        Refusal::Range
-    }
-}
-
 // S is below zero, and not zero.
 fn southern(ms: u64) -> LocalLatitudeAnswer
-    requires { ⌜ ms < 1_000_000_000 ⌝ }
+    requires { ⌜ ms ≤ 1_296_000_000 ⌝ }
     ensures { λ r. ⌜ localLatitude r ≡ provided (not (eqb ms 0)) 3 (tested (isLatitude (negℤ (pos ms))) (negℤ (pos ms))) ⌝ }
 {
     if ms == 0 {
@@ -243,7 +234,8 @@ fn last_digit(n: u64) -> u8
     (n % 10) as u8 + b'0'
 }
 
-// ms as `dddmmss.sss`, and the letter. A latitude's text is this without its first digit.
+// ms as `dddmmss.sss`, and the letter. A latitude's text is this without its first digit. The last two of three digits are made
+// of the rest by 100, which takes a division less.
 fn spelled(ms: u64, letter: u8) -> [u8; 12]
     ensures { λ r. ⌜ r ≡ spelled longitude ms letter ⌝ }
 {
@@ -253,16 +245,16 @@ fn spelled(ms: u64, letter: u8) -> [u8; 12]
     let degrees = ms / SECOND / 60 / 60;
     [
         last_digit(degrees / 100),
-        last_digit(degrees / 10),
-        last_digit(degrees),
+        last_digit(degrees % 100 / 10),
+        last_digit(degrees % 100),
         last_digit(minutes / 10),
         last_digit(minutes),
         last_digit(seconds / 10),
         last_digit(seconds),
         b'.',
         last_digit(thousandths / 100),
-        last_digit(thousandths / 10),
-        last_digit(thousandths),
+        last_digit(thousandths % 100 / 10),
+        last_digit(thousandths % 100),
         letter,
     ]
 }

@@ -1,22 +1,20 @@
 -- `position::read_latitude` meets its contract: each return answers what the tests before it leave. Assumes nothing.
-use mathlib.Core.Path.{_≡_, refl, ap, _∙_}
-use mathlib.Core.Bool.{true, not}
+use mathlib.Core.Path.{_≡_, ap, _∙_}
+use mathlib.Core.Bool.{true}
 use mathlib.Core.List.{List}
 use Prim.Native.Nat.{ℕ, _<_, _^_}
 use native.Mathlib.Omega.{arith}
 use borrow.Author.Needs.{needs}
 use borrow.Author.Tests.{not-true, not-false}
-use lib.Dec.{eqb}
 use lib.IntN.{ℤ, pos, negℤ}
 use lib.ListN.{length}
 use mir.Syntax.{w64}
 use mir.Val.{hbits}
-use Rattle.kinds.specs.Answer.{refused, provided}
 use Rattle.kinds.specs.Kinds.{isLatitude, tested}
 use Rattle.whole.proofs.Bools.{joined}
 use Rattle.whole.proofs.Words.{from-unsigned}
 use Rattle.position.specs.Text.{latitude, letter, isLetter, isAngle, inSixties, angle}
-use Rattle.position.proofs.Reading.{two-fail, wrong-length, wrong-kind, south, not-south, refused-angle, Said, said}
+use Rattle.position.proofs.Reading.{two-fail, wrong-length, wrong-kind, south, not-south, not-said, Said, said}
 use Rattle.position.proofs.read_latitude.Statement.{statement}
 use Rattle.position.proofs.read_latitude.Tie as tie
 
@@ -47,14 +45,10 @@ module _ (c : tie.After-read-angle) where
   lettered : isLetter latitude (letter latitude t) ≡ true
   lettered = not-false _ (c .before .if2 .left)
 
-why-requires : tie.Need-why-requires
-why-requires c κs = search needs
-
 returns-3 : tie.Need-returns-3
 returns-3 c =
-    let r = c .before .before in
-    ap refused (c .why .ensures)
-    ∙ refused-angle latitude (t r) (isAngle latitude (t r)) (inSixties latitude (t r)) (angle latitude (t r)) (long r) (lettered r) refl refl (r .read-angle .ensures) (c .before .if3 .taken)
+    let r = c .before in
+    wrong-kind latitude (t r) (long r) (simp (not-said (isAngle latitude (t r)) (inSixties latitude (t r)) (angle latitude (t r)) (r .read-angle .ensures) (c .if3 .taken)))
 
 -- past the test of what was read
 right : (c : tie.Else3) → Said (isAngle latitude (t (c .before))) (inSixties latitude (t (c .before))) (angle latitude (t (c .before))) (c .before .read-angle .result)
@@ -68,8 +62,7 @@ returns-4 c =
     let e = c .before .before in
     let r = e .before in
     c .southern .ensures
-    ∙ ap (λ (m : ℕ). provided (not (eqb m 0)) 3 (tested (isLatitude (negℤ (pos m))) (negℤ (pos m)))) (right e .ms)
-    ∙ south latitude (t r) (long r) (joined (right e .kinds) (lettered r)) (right e .sixties) (c .before .if4 .taken)
+    ∙ south latitude (t r) (long r) (joined (right e .kinds) (lettered r)) (right e .ms) (c .before .if4 .taken) (λ h. ap (λ (m : ℕ). isLatitude (negℤ (pos m))) (right e .none h))
 
 cast-new : tie.Need-cast-new
 cast-new c = search (needs, right (c .before) .small)
@@ -83,8 +76,8 @@ returns-5 c =
     let r = e .before in
     let small : r .read-angle .result < 2 ^ hbits w64 = omega (arith, right e .small) in
     c .new .ensures
-    ∙ ap (λ (x : ℤ). tested (isLatitude x) x) (from-unsigned {w = w64} small .reads ∙ ap pos (right e .ms))
-    ∙ not-south latitude (t r) (long r) (joined (right e .kinds) (lettered r)) (right e .sixties) (c .before .if4 .left)
+    ∙ ap (λ (x : ℤ). tested (isLatitude x) x) (from-unsigned {w = w64} small .reads)
+    ∙ not-south latitude (t r) (long r) (joined (right e .kinds) (lettered r)) (right e .ms) (c .before .if4 .left) (λ h. ap (λ (m : ℕ). isLatitude (pos m)) (right e .none h))
 
 pub read-latitude-spec : {M : Type 1} → statement M
 read-latitude-spec =
@@ -94,7 +87,6 @@ read-latitude-spec =
     shared-slice-read-letter
     returns-2
     read-angle-requires
-    why-requires
     returns-3
     southern-requires
     returns-4

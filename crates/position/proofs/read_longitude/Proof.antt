@@ -1,24 +1,23 @@
 -- `position::read_longitude` meets its contract: each return answers what the tests before it leave. Assumes nothing.
-use mathlib.Core.Path.{_≡_, refl, sym, ap, _∙_}
+use mathlib.Core.Path.{_≡_, sym, ap, _∙_}
 use mathlib.Core.Bool.{Bool, true, false, _&&_}
 use mathlib.Core.List.{List}
 use Prim.Native.Nat.{ℕ, _+_, _*_, _<_, _^_}
 use native.Mathlib.Omega.{arith}
 use borrow.Author.Needs.{needs}
 use borrow.Author.Tests.{eqb-true, not-true, not-false}
-use lib.IntN.{ℤ, pos}
+use lib.IntN.{ℤ}
 use lib.ListN.{length}
 use mir.Syntax.{w64}
 use mir.Val.{hbits}
 use Rattle.whole.specs.Digits.{isDigit}
-use Rattle.kinds.specs.Answer.{refused}
 use Rattle.kinds.specs.Kinds.{isLongitude, tested}
 use Rattle.whole.proofs.Bools.{both, joined}
 use Rattle.whole.proofs.Words.{from-unsigned}
 use Rattle.kinds.proofs.Bytes.{at}
 use Rattle.position.specs.Text.{latitude, longitude, letterE, letter, isLetter, isAngle, inSixties, angle}
 use Rattle.position.proofs.Bytes.{rest, longitude-is-angle, longitude-in-sixties, longitude-angle}
-use Rattle.position.proofs.Reading.{two-fail, wrong-length, wrong-kind, not-south, refused-angle, Said, said}
+use Rattle.position.proofs.Reading.{two-fail, wrong-length, wrong-kind, not-south, not-said, Said, said, past-a-turn}
 use Rattle.position.proofs.read_longitude.Statement.{statement}
 use Rattle.position.proofs.read_longitude.Tie as tie
 
@@ -79,17 +78,13 @@ module _ (c : tie.After-read-angle) where
   angles : {b : Bool} → a ≡ b → isAngle longitude t ≡ b
   angles h = sym (longitude-is-angle t long) ∙ simp (first .0) h
 
-  sixties : {b : Bool} → s ≡ b → inSixties longitude t ≡ b
-  sixties h = sym (longitude-in-sixties t long) ∙ h
-
-why-requires : tie.Need-why-requires
-why-requires c κs = search needs
+  sixties : {b : Bool} → inSixties longitude t ≡ b → s ≡ b
+  sixties h = longitude-in-sixties t long ∙ h
 
 returns-3 : tie.Need-returns-3
 returns-3 c =
-    let r = c .before .before in
-    ap refused (c .why .ensures)
-    ∙ refused-angle longitude (t r) (a r) (s r) (m r) (long r) (first r .1) (angles r refl) (sixties r refl) (r .read-angle .ensures) (c .before .if3 .taken)
+    let r = c .before in
+    wrong-kind longitude (t r) (long r) (simp (angles r (not-said (a r) (s r) (m r) (r .read-angle .ensures) (c .if3 .taken))))
 
 -- past the test of what was read
 right : (c : tie.Else3) → Said (a (c .before)) (s (c .before)) (m (c .before)) (c .before .read-angle .result)
@@ -116,10 +111,10 @@ returns-4 c =
     let r = e .before in
     let n = c .before .digit .result * 360000000 + r .read-angle .result in
     let small : n < 2 ^ hbits w64 = omega (arith, c .before .digit .ensures .1, right e .small) in
-    let ms : n ≡ angle longitude (t r) = simp (c .before .digit .ensures .0, right e .ms) (longitude-angle (t r) (long r)) in
+    let ms : inSixties longitude (t r) ≡ true → n ≡ angle longitude (t r) = λ h. simp (c .before .digit .ensures .0, right e .ms (sixties r h)) (longitude-angle (t r) (long r)) in
     c .new .ensures
-    ∙ ap (λ (x : ℤ). tested (isLongitude x) x) (from-unsigned {w = w64} small .reads ∙ ap pos ms)
-    ∙ not-south longitude (t r) (long r) (joined (angles r (right e .kinds)) (first r .1)) (sixties r (right e .sixties)) (λ h. omega (arith, eqb-true (letter longitude (t r)) letterE (first r .1), h))
+    ∙ ap (λ (x : ℤ). tested (isLongitude x) x) (from-unsigned {w = w64} small .reads)
+    ∙ not-south longitude (t r) (long r) (joined (angles r (right e .kinds)) (first r .1)) ms (λ h. omega (arith, eqb-true (letter longitude (t r)) letterE (first r .1), h)) (λ h. past-a-turn n (omega (arith, right e .none (sixties r h))))
 
 pub read-longitude-spec : {M : Type 1} → statement M
 read-longitude-spec =
@@ -134,7 +129,6 @@ read-longitude-spec =
     part-read-angle-start
     part-read-angle-end
     read-angle-requires
-    why-requires
     returns-3
     digit-requires
     mul-new
