@@ -56,6 +56,15 @@ lower {n} {m} h = simp (lt-ltb m n h)
 pub not-lower : {n m : ℕ} → n ≤ m → n ≡ firstRefusal n (refused m)
 not-lower {n} {m} h = simp (le-ltb m n h)
 
+-- a wrong byte is refused as such, whatever the longitude's text
+pub kind-first : (t : List ℕ) {n : ℕ} → length t ≡ 12 → n ≡ 2 → n ≡ firstRefusal n (read longitude t)
+kind-first t {n} long h = go (rightKinds longitude t) (rightRanges longitude t) ∙ ap (firstRefusal n) (sym (right-length longitude t long))
+  where
+    go : (kinds ranges : Bool) → n ≡ firstRefusal n (tested kinds ranges (value longitude t))
+    go false ranges = not-lower (omega (arith, h))
+    go true false = not-lower (omega (arith, h))
+    go true true = refl
+
 -- ---- the bytes between them
 wrong-first : (d s kl z ko : Bool) → d && s && z ≡ false → d && s && kl && z && ko ≡ false
 wrong-first false s kl z ko h = refl
@@ -116,8 +125,8 @@ module _ (t : List ℕ) where
           ∙ read-together (code t) (value latitude (latitudeText t)) (value longitude (longitudeText t)) (rightKinds latitude (latitudeText t)) (rightRanges latitude (latitudeText t)) (rightKinds longitude (longitudeText t)) (rightRanges longitude (longitudeText t)) (sym latitude-is ∙ h)
           ∙ together-is
 
-      pub latitude-refused : {n : ℕ} {east : Answer ℤ} → read latitude (latitudeText t) ≡ refused n → east ≡ read longitude (longitudeText t) → refused (firstRefusal n east) ≡ pointSaid t
+      pub latitude-refused : {n m : ℕ} → read latitude (latitudeText t) ≡ refused n → m ≡ firstRefusal n (read longitude (longitudeText t)) → refused m ≡ pointSaid t
       latitude-refused {n} h e =
-          ap (λ (a : Answer ℤ). refused (firstRefusal n a)) (e ∙ longitude-is)
+          ap refused (e ∙ ap (firstRefusal n) longitude-is)
           ∙ refused-together (code t) (value latitude (latitudeText t)) (value longitude (longitudeText t)) (rightKinds latitude (latitudeText t)) (rightRanges latitude (latitudeText t)) (rightKinds longitude (longitudeText t)) (rightRanges longitude (longitudeText t)) (sym latitude-is ∙ h)
           ∙ together-is

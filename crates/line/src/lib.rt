@@ -16,6 +16,7 @@ ghost use Prim.Native.Nat.{_+_, _≤_};
 ghost use lib.ListN.{length, drop};
 ghost use Rattle.kinds.specs.Answer.{numberOf, placed, counted, lent};
 ghost use Rattle.kinds.specs.Cases.{localLongitude, written};
+ghost use Rattle.position.specs.Text.{longitude, read};
 ghost use Rattle.datum.specs.Cases.{shiftSays, geoidSays};
 ghost use Rattle.line.specs.Line.{answerLine, lineOf};
 ghost use Rattle.line.specs.Inside.{placeSays, placeAnswer, pointSaid, withLongitude, firstRefusal, answeredOf};
@@ -62,14 +63,16 @@ fn read(text: &[u8]) -> PlaceAnswer
     if !((b'0' <= code) & (code <= b'9') & (text[1] == b' ') & (text[13] == b' ')) {
         return PlaceAnswer::Refused(Refusal::Kind);
     }
-    let longitude = position::read_longitude(&text[14..26]);
     match position::read_latitude(&text[2..13]) {
         LocalLatitudeAnswer::Gives(latitude) => with_longitude(
             (code - b'0') as i64,
             latitude,
-            longitude,
+            position::read_longitude(&text[14..26]),
         ),
-        LocalLatitudeAnswer::Refused(why) => PlaceAnswer::Refused(first_refusal(why, longitude)),
+        LocalLatitudeAnswer::Refused(why) => PlaceAnswer::Refused(first_refusal(
+            why,
+            &text[14..26],
+        )),
     }
 }
 
@@ -91,11 +94,16 @@ fn with_longitude(
     }
 }
 
-// Of a line whose latitude is refused: the lower number of the two, since a wrong byte comes before what is out of range.
-fn first_refusal(latitude: Refusal, longitude: LocalLongitudeAnswer) -> Refusal
-    ensures { λ r. ⌜ numberOf r ≡ firstRefusal (numberOf latitude) (localLongitude longitude) ⌝ }
+// Of a line whose latitude is refused, by the text of its longitude: the lower number of the two, since a wrong byte comes before
+// what is out of range. After a wrong byte the text is not read.
+fn first_refusal(latitude: Refusal, text: &[u8]) -> Refusal
+    requires { ⌜ length (now text) ≡ 12 ⌝ }
+    ensures { λ r. ⌜ numberOf r ≡ firstRefusal (numberOf latitude) (read longitude (now (text .entry))) ⌝ }
 {
-    if let LocalLongitudeAnswer::Refused(why) = longitude {
+    if let Refusal::Kind = latitude {
+        return latitude;
+    }
+    if let LocalLongitudeAnswer::Refused(why) = position::read_longitude(text) {
         if why.number() < latitude.number() {
             return why;
         }
