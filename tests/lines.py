@@ -61,7 +61,8 @@ FAULTS = [
 ]
 UNKNOWN = b'0' + GOOD[1:]                         # a code that is none
 BYTES = b'\0\t\n\r /09:.,Nn\x7f\x80\xb0\xff'   # each of these stands at each place of the line in turn
-READ = 16_384                                     # bytes that `lines` reads at a time, as crates/lines/src/main.rt has it
+READ = 65_536                                     # bytes that `lines` reads at a time, as crates/lines/src/main.rt has it
+LONG = range(27, 180)                             # bytes before a line feed that is looked for by blocks, words and bytes
 
 
 @cache
@@ -129,9 +130,10 @@ def given():
     lines += [(GOOD + b' 123')[:size] for size in range(31)] + [b'', b'', GOOD * 200, GOOD]
     lines += [GOOD[:place] + bytes([other]) + GOOD[place + 1:] for place in range(26) for other in BYTES]
     text = INPUT + b'\n'.join(lines + [UNKNOWN] * 1000) + b'\n'
-    text = until(4, -14, text) + b'\n' + GOOD + b'\n'       # the fourth read ends in the middle of a good line,
-    text = until(8, -26, text) + GOOD + b'\n'              # the eighth with one that is the end of an overlong line,
-    text = until(12, -14, text) + b'\n' + GOOD + b'0\n'     # the twelfth in the start of a line that is a byte too long
+    text = until(1, -14, text) + b'\n' + GOOD + b'\n'       # the first read ends in the middle of a good line,
+    text = until(2, -26, text) + GOOD + b'\n'              # the second with one that is the end of an overlong line,
+    text = until(3, -14, text) + b'\n' + GOOD + b'0\n'     # the third in the start of a line that is a byte too long
+    text += b''.join(byte * size + b'\n' for byte in (b'0', b'\x8a') for size in LONG)
     return text + UNKNOWN + b'\n' + GOOD
 
 

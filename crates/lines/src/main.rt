@@ -31,8 +31,8 @@ struct Handed {
 }
 
 fn main() {
-    let mut input = [0; 16_384];
-    // room for the answers of all that is read at a time: 36 bytes for the first byte, and 10 for each one more
+    let mut input = [0; 65_536];
+    // room for the answers of a quarter of what is read at a time: 36 bytes for the first byte, and 10 for each one more
     let mut output = [0; 163_866];
     let last = run(&mut input, &mut output);
     tell(last);

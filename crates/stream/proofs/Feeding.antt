@@ -15,11 +15,11 @@ use Rattle.whole.proofs.Bools.{by-test}
 use Rattle.kinds.specs.Bytes.{part}
 use Rattle.kinds.proofs.Writing.{grown}
 use Rattle.line.specs.Line.{lineFeed, unbroken}
+use Rattle.stream.specs.Inside.{FirstFeed}
 use Rattle.stream.specs.Stream.{printed, ended, begunAfter, held, kept, after, atEnd, takenOf, answers, closing}
 use Rattle.stream.specs.declared.Begun.{Begun}
 use Rattle.stream.specs.declared.Reading.{Reading}
 use Rattle.stream.specs.declared.Fed.{Fed}
-use Rattle.stream.proofs.Keeping.{held-kept}
 use Rattle.stream.proofs.Lines.{begun-pieces, goes-on, begins-anew}
 use Rattle.stream.proofs.Printing.{answers-pieces, answers-none, answers-line, answers-short}
 
@@ -60,25 +60,20 @@ module _ (left room : ℕ) (bytes : List ℕ) {taken : ℕ} where
   unfolding takenOf
   no-more is-taken = (omega (arith, length-take left bytes), omega (arith, length-take left bytes))
 
--- ---- what holds where the bytes before `from` were read: the next line feed is at `end`, or none is and `end` is `taken`
-pub record Good (bytes begun out₀ : List ℕ) (taken : ℕ) (out line : List ℕ) (from put end : ℕ) : Type 0 where
+-- ---- what holds where the bytes before `from` were read
+pub record Good (bytes begun out₀ : List ℕ) (taken : ℕ) (out line : List ℕ) (from put : ℕ) : Type 0 where
   pub enough : taken ≤ takenOf bytes (length out₀)
   pub within : from ≤ taken
-  pub found : end ≡ from + indexOf lineFeed (slice from taken bytes)
-  pub most : end ≤ taken
   pub count : put ≡ length (answers begun (take from bytes))
   pub text : out ≡ answers begun (take from bytes) ++ drop put out₀
   pub line-is : line ≡ begunAfter begun (take from bytes)
 
-pub start : (bytes begun out₀ : List ℕ) {taken end : ℕ} → taken ≤ takenOf bytes (length out₀)
-    → end ≡ 0 + indexOf lineFeed (slice 0 taken bytes) → end ≤ taken → Good bytes begun out₀ taken out₀ begun 0 0 end
+pub start : (bytes begun out₀ : List ℕ) {taken : ℕ} → taken ≤ takenOf bytes (length out₀) → Good bytes begun out₀ taken out₀ begun 0 0
 unfolding answers ended flatMap begunAfter
-start bytes begun out₀ enough found most =
+start bytes begun out₀ enough =
     record {
       enough = enough;
       within = omega arith;
-      found = found;
-      most = most;
       count = refl;
       text = refl;
       line-is = refl;
@@ -88,119 +83,122 @@ start bytes begun out₀ enough found most =
 abbrev between : ℕ → ℕ → List ℕ → List ℕ
 between from to bytes = part from (to - from) bytes
 
-module _ {bytes begun out₀ : List ℕ} {taken : ℕ} {out line : List ℕ} {from put end : ℕ} (good : Good bytes begun out₀ taken out line from put end) where
+module _ {bytes begun out₀ : List ℕ} {taken : ℕ} {out line : List ℕ} {from put : ℕ} (good : Good bytes begun out₀ taken out line from put) where
+  pub taken-within : taken ≤ length bytes
+  unfolding takenOf
+  taken-within = omega (arith, good .enough)
+
   pub put-within : put ≤ length out
   put-within = omega (arith, ap length (good .text), length-append (answers begun (take from bytes)) (drop put out₀), good .count)
-
-  no-feed : unbroken (between from end bytes) ≡ true
-  unfolding slice
-  no-feed =
-      let n : ℕ = indexOf lineFeed (drop from (take taken bytes)) in
-      let e : end - from ≡ n = omega (arith, good .found) in
-      ap (λ (n : ℕ). unbroken (part from n bytes)) e
-      ∙ ap unbroken (sym (part-of from taken n bytes (omega (arith, good .found, good .most))))
-      ∙ before-feed (drop from (take taken bytes))
-
-  up-to-end : take end bytes ≡ take from bytes ++ between from end bytes
-  up-to-end = let e : end ≡ from + (end - from) = omega (arith, good .found) in ap (λ (n : ℕ). take n bytes) e ∙ take-add from (end - from) bytes
 
   pub long : length out ≡ length out₀
   long =
       let room = fits begun bytes (length out₀) from (omega (arith, good .enough, good .within)) in
       omega (arith, ap length (good .text), length-append (answers begun (take from bytes)) (drop put out₀), length-drop put out₀, good .count)
 
-  -- ---- a line ends
-  module _ (more : end < taken) where
-    feed-there : getD bytes end 0 ≡ lineFeed
-    unfolding slice takenOf
-    feed-there =
-        let xs : List ℕ = drop from (take taken bytes) in
-        let n : ℕ = indexOf lineFeed xs in
-        ap (λ (n : ℕ). getD bytes n 0) (good .found)
-        ∙ sym (getD-take taken bytes (from + n) 0 (omega (arith, good .found)))
-        ∙ sym (getD-drop from (take taken bytes) n 0)
-        ∙ at-feed xs (omega (arith, good .found, length-drop from (take taken bytes), length-take taken bytes))
+  -- the next line feed is at `end`, or none is and `end` is `taken`
+  module _ {end : ℕ} (first : FirstFeed from taken bytes end) where
+    no-feed : unbroken (between from end bytes) ≡ true
+    unfolding slice
+    no-feed =
+        let n : ℕ = indexOf lineFeed (drop from (take taken bytes)) in
+        let e : end - from ≡ n = omega (arith, first .0) in
+        ap (λ (n : ℕ). unbroken (part from n bytes)) e
+        ∙ ap unbroken (sym (part-of from taken n bytes (omega (arith, first .0, first .1))))
+        ∙ before-feed (drop from (take taken bytes))
 
-    past-end : take (end + 1) bytes ≡ take from bytes ++ (between from end bytes ++ lineFeed ∷ [])
-    unfolding takenOf
-    past-end =
-        ap (λ (n : ℕ). take n bytes) (add-one end)
-        ∙ take-suc bytes end 0 (omega arith)
-        ∙ (λ i. up-to-end i ++ feed-there i ∷ [])
-        ∙ append-assoc (take from bytes) (between from end bytes) (lineFeed ∷ [])
+    up-to-end : take end bytes ≡ take from bytes ++ between from end bytes
+    up-to-end = let e : end ≡ from + (end - from) = omega (arith, first .0) in ap (λ (n : ℕ). take n bytes) e ∙ take-add from (end - from) bytes
 
-    answers-next : answers begun (take (end + 1) bytes) ≡ answers begun (take from bytes) ++ printed (line ++ between from end bytes)
-    unfolding answers ended flatMap
-    answers-next =
-        ap (answers begun) past-end
-        ∙ answers-pieces begun (take from bytes) (between from end bytes ++ lineFeed ∷ [])
-        ∙ ap (λ (l : List ℕ). answers begun (take from bytes) ++ l) (answers-line (begunAfter begun (take from bytes)) (between from end bytes) [] no-feed ∙ append-nil _)
-        ∙ ap (λ (l : List ℕ). answers begun (take from bytes) ++ printed (l ++ between from end bytes)) (sym (good .line-is))
+    -- ---- a line ends
+    module _ (more : end < taken) where
+      feed-there : getD bytes end 0 ≡ lineFeed
+      unfolding slice takenOf
+      feed-there =
+          let xs : List ℕ = drop from (take taken bytes) in
+          let n : ℕ = indexOf lineFeed xs in
+          ap (λ (n : ℕ). getD bytes n 0) (first .0)
+          ∙ sym (getD-take taken bytes (from + n) 0 (omega (arith, first .0)))
+          ∙ sym (getD-drop from (take taken bytes) n 0)
+          ∙ at-feed xs (omega (arith, first .0, length-drop from (take taken bytes), length-take taken bytes))
 
-    begun-next : begunAfter begun (take (end + 1) bytes) ≡ []
-    unfolding begunAfter
-    begun-next =
-        ap (begunAfter begun) past-end
-        ∙ begun-pieces begun (take from bytes) (between from end bytes ++ lineFeed ∷ [])
-        ∙ begins-anew (begunAfter begun (take from bytes)) (between from end bytes) [] no-feed
+      past-end : take (end + 1) bytes ≡ take from bytes ++ (between from end bytes ++ lineFeed ∷ [])
+      unfolding takenOf
+      past-end =
+          ap (λ (n : ℕ). take n bytes) (add-one end)
+          ∙ take-suc bytes end 0 (omega arith)
+          ∙ (λ i. up-to-end i ++ feed-there i ∷ [])
+          ∙ append-assoc (take from bytes) (between from end bytes) (lineFeed ∷ [])
 
-    count-next : length (answers begun (take (end + 1) bytes)) ≡ put + length (printed (line ++ between from end bytes))
-    count-next = omega (arith, ap length answers-next, length-append (answers begun (take from bytes)) (printed (line ++ between from end bytes)), good .count)
+      answers-next : answers begun (take (end + 1) bytes) ≡ answers begun (take from bytes) ++ printed (line ++ between from end bytes)
+      unfolding answers ended flatMap
+      answers-next =
+          ap (answers begun) past-end
+          ∙ answers-pieces begun (take from bytes) (between from end bytes ++ lineFeed ∷ [])
+          ∙ ap (λ (l : List ℕ). answers begun (take from bytes) ++ l) (answers-line (begunAfter begun (take from bytes)) (between from end bytes) [] no-feed ∙ append-nil _)
+          ∙ ap (λ (l : List ℕ). answers begun (take from bytes) ++ printed (l ++ between from end bytes)) (sym (good .line-is))
 
-    -- its answer has room
-    room : put + length (printed (line ++ between from end bytes)) ≤ length out₀
-    room = omega (arith, count-next, fits begun bytes (length out₀) (end + 1) (omega (arith, good .enough)))
+      begun-next : begunAfter begun (take (end + 1) bytes) ≡ []
+      unfolding begunAfter
+      begun-next =
+          ap (begunAfter begun) past-end
+          ∙ begun-pieces begun (take from bytes) (between from end bytes ++ lineFeed ∷ [])
+          ∙ begins-anew (begunAfter begun (take from bytes)) (between from end bytes) [] no-feed
 
-    pub lent-room : length (printed (line ++ between from end bytes)) ≤ length (take (length out - put) (drop put out))
-    lent-room = omega (arith, room, long, length-take (length out - put) (drop put out), length-drop put out)
+      count-next : length (answers begun (take (end + 1) bytes)) ≡ put + length (printed (line ++ between from end bytes))
+      count-next = omega (arith, ap length answers-next, length-append (answers begun (take from bytes)) (printed (line ++ between from end bytes)), good .count)
 
-    pub sum-fits : {r : ℕ} → r ≡ length (printed (line ++ between from end bytes)) → put + r ≤ length out₀
-    sum-fits h = omega (arith, room)
+      -- its answer has room
+      room : put + length (printed (line ++ between from end bytes)) ≤ length out₀
+      room = omega (arith, count-next, fits begun bytes (length out₀) (end + 1) (omega (arith, good .enough)))
 
-    pub turn : (r next : ℕ) (new : List ℕ) (none : Begun) → none ≡ kept [] → r ≡ length (printed (line ++ between from end bytes))
-        → new ≡ printed (line ++ between from end bytes) ++ drop r (take (length out - put) (drop put out))
-        → next ≡ end + 1 + indexOf lineFeed (slice (end + 1) taken bytes) → next ≤ taken
-        → Good bytes begun out₀ taken (putMid put (length out - put) out new) (held none) (end + 1) (put + r) next
-    turn r next new none is-none is-r is-new found most =
-        let text = grown (answers begun (take from bytes)) out₀ (printed (line ++ between from end bytes)) put r (sym (good .count)) in
-        record {
-          enough = good .enough;
-          within = omega arith;
-          found = found;
-          most = most;
-          count = omega (arith, count-next);
-          text = rw (is-new, good .text) (text ∙ ap (λ (l : List ℕ). l ++ drop (put + r) out₀) (sym answers-next));
-          line-is = ap held is-none ∙ held-kept [] ∙ sym begun-next;
-        }
+      pub lent-room : length (printed (line ++ between from end bytes)) ≤ length (take (length out - put) (drop put out))
+      lent-room = omega (arith, room, long, length-take (length out - put) (drop put out), length-drop put out)
 
-  -- ---- no more line ends
-  module _ (last : taken ≤ end) where
-    all-up : take taken bytes ≡ take from bytes ++ between from end bytes
-    all-up = let e : taken ≡ end = omega (arith, good .most) in ap (λ (n : ℕ). take n bytes) e ∙ up-to-end
+      pub sum-fits : {r : ℕ} → r ≡ length (printed (line ++ between from end bytes)) → put + r ≤ length out₀
+      sum-fits h = omega (arith, room)
 
-    all-put : answers begun (take taken bytes) ≡ answers begun (take from bytes)
-    all-put =
-        ap (answers begun) all-up
-        ∙ answers-pieces begun (take from bytes) (between from end bytes)
-        ∙ ap (λ (l : List ℕ). answers begun (take from bytes) ++ l) (answers-none (begunAfter begun (take from bytes)) (between from end bytes) no-feed)
-        ∙ append-nil (answers begun (take from bytes))
+      pub turn : (r : ℕ) (new : List ℕ) → r ≡ length (printed (line ++ between from end bytes))
+          → new ≡ printed (line ++ between from end bytes) ++ drop r (take (length out - put) (drop put out))
+          → Good bytes begun out₀ taken (putMid put (length out - put) out new) [] (end + 1) (put + r)
+      turn r new is-r is-new =
+          let text = grown (answers begun (take from bytes)) out₀ (printed (line ++ between from end bytes)) put r (sym (good .count)) in
+          record {
+            enough = good .enough;
+            within = omega arith;
+            count = omega (arith, count-next);
+            text = rw (is-new, good .text) (text ∙ ap (λ (l : List ℕ). l ++ drop (put + r) out₀) (sym answers-next));
+            line-is = sym begun-next;
+          }
 
-    begun-then : begunAfter begun (take taken bytes) ≡ line ++ between from taken bytes
-    begun-then =
-        let e : end ≡ taken = omega (arith, good .most) in
-        ap (begunAfter begun) all-up
-        ∙ begun-pieces begun (take from bytes) (between from end bytes)
-        ∙ goes-on (begunAfter begun (take from bytes)) (between from end bytes) no-feed
-        ∙ (λ i. sym (good .line-is) i ++ between from (e i) bytes)
+    -- ---- no more line ends
+    module _ (last : taken ≤ end) where
+      all-up : take taken bytes ≡ take from bytes ++ between from end bytes
+      all-up = let e : taken ≡ end = omega (arith, first .1) in ap (λ (n : ℕ). take n bytes) e ∙ up-to-end
 
-    all-begun : (r : Begun) → r ≡ kept (line ++ between from taken bytes) → r ≡ kept (begunAfter begun (take taken bytes))
-    all-begun r is-r = is-r ∙ ap kept (sym begun-then)
+      all-put : answers begun (take taken bytes) ≡ answers begun (take from bytes)
+      all-put =
+          ap (answers begun) all-up
+          ∙ answers-pieces begun (take from bytes) (between from end bytes)
+          ∙ ap (λ (l : List ℕ). answers begun (take from bytes) ++ l) (answers-none (begunAfter begun (take from bytes)) (between from end bytes) no-feed)
+          ∙ append-nil (answers begun (take from bytes))
 
-    all-counted : put ≡ length (answers begun (take taken bytes))
-    all-counted = good .count ∙ ap length (sym all-put)
+      begun-then : begunAfter begun (take taken bytes) ≡ line ++ between from taken bytes
+      begun-then =
+          let e : end ≡ taken = omega (arith, first .1) in
+          ap (begunAfter begun) all-up
+          ∙ begun-pieces begun (take from bytes) (between from end bytes)
+          ∙ goes-on (begunAfter begun (take from bytes)) (between from end bytes) no-feed
+          ∙ (λ i. sym (good .line-is) i ++ between from (e i) bytes)
 
-    all-there : out ≡ answers begun (take taken bytes) ++ drop put out₀
-    all-there = good .text ∙ ap (λ (l : List ℕ). l ++ drop put out₀) (sym all-put)
+      all-begun : (r : Begun) → r ≡ kept (line ++ between from taken bytes) → r ≡ kept (begunAfter begun (take taken bytes))
+      all-begun r is-r = is-r ∙ ap kept (sym begun-then)
+
+      all-counted : put ≡ length (answers begun (take taken bytes))
+      all-counted = good .count ∙ ap length (sym all-put)
+
+      all-there : out ≡ answers begun (take taken bytes) ++ drop put out₀
+      all-there = good .text ∙ ap (λ (l : List ℕ). l ++ drop put out₀) (sym all-put)
 
 -- ---- what a call promises
 -- of the bytes that it took, where put bytes are put
@@ -216,14 +214,14 @@ Took reading bytes out₀ out fed =
     × ((fed .reading ≡ after reading (take (fed .taken) bytes))
     × Puts (held (reading .begun)) (take (fed .taken) bytes) out₀ out (fed .put))
 
-pub whole : (reading : Reading) {bytes out₀ out line : List ℕ} {taken from put end : ℕ} (good : Good bytes (held (reading .begun)) out₀ taken out line from put end) → taken ≤ end
+pub whole : (reading : Reading) {bytes out₀ out line : List ℕ} {taken from put end : ℕ} (good : Good bytes (held (reading .begun)) out₀ taken out line from put) → FirstFeed from taken bytes end → taken ≤ end
     → taken ≡ takenOf (take (reading .left) bytes) (length out₀) → (r : Begun) → r ≡ kept (line ++ between from taken bytes)
     → Took reading bytes out₀ out (record { reading = record { begun = r; left = reading .left - taken }; taken = taken; put = put })
 unfolding after takenOf
-whole reading {bytes} {out₀} {out} {taken = taken} {put = put} good last is-taken r is-r =
+whole reading {bytes} {out₀} {out} {taken = taken} {put = put} good first last is-taken r is-r =
     let n : taken ≡ length (take taken bytes) = sym (length-take-le taken bytes (omega (arith, good .enough))) in
-    let state : record { begun = r; left = reading .left - taken } ≡ after reading (take taken bytes) = λ i. record { begun = all-begun good last r is-r i; left = reading .left - n i } in
-    (is-taken, (state, (all-counted good last, (all-there good last, (put-within good, sym (length-take-le put out (put-within good)))))))
+    let state : record { begun = r; left = reading .left - taken } ≡ after reading (take taken bytes) = λ i. record { begun = all-begun good first last r is-r i; left = reading .left - n i } in
+    (is-taken, (state, (all-counted good first last, (all-there good first last, (put-within good, sym (length-take-le put out (put-within good)))))))
 
 -- ---- the end of an input
 -- a line feed that is taken where a line is begun

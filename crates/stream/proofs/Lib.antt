@@ -5,6 +5,8 @@ pub mod Lines
 pub mod Keeping
 -- what is printed for a line, and for the lines that end in some bytes
 pub mod Printing
+-- where the next line feed is
+pub mod Finding
 -- the loop of `feed`, and what a call promises
 pub mod Feeding
 -- what document 01 asks of the line program's input and output

@@ -3,12 +3,15 @@
 use kinds::WrittenAnswer;
 use line::ANSWER;
 use line::LINE;
+use numbers::four;
 use whole::least;
 ghost use mathlib.Core.Path.{_≡_};
+ghost use mathlib.Core.Bool.{true};
 ghost use mathlib.Core.List.{[], _++_};
-ghost use Prim.Native.Nat.{_-_, _/_, _<_, _≤_};
+ghost use Prim.Native.Nat.{_+_, _-_, _/_, _<_, _≤_};
 ghost use lib.ListN.{length, take, drop};
 ghost use Rattle.stream.specs.Stream.{refusedLine, printed, held, kept, started, after, atEnd, takenOf, answers, closing};
+ghost use Rattle.stream.specs.Inside.{Clear, FirstFeed};
 
 // The first bytes of a line whose line feed has not come. Of a longer line 27 are kept, which are refused as it is.
 pub struct Begun {
@@ -37,6 +40,11 @@ const KEPT: usize = LINE + 1;
 
 // bytes of the line of a refusal
 const REFUSED: usize = 10;
+
+// bytes that are tested for a line feed together
+const WORD: usize = 8;
+
+const BLOCK: usize = 128;
 
 impl Begun {
     // No line is begun.
@@ -84,20 +92,21 @@ pub fn feed(reading: Reading, bytes: &[u8], out: &mut [u8]) -> Fed
     let mut line = reading.begun;
     let mut from = 0;
     let mut put = 0;
-    let mut end = bytes::scan::find(bytes, from, taken, b'\n');
-    while end < taken {
+    loop {
+        let end = line_feed(bytes, from, taken);
+        if taken <= end {
+            return Fed {
+                reading: Reading {
+                    begun: extended(line, &bytes[from..taken]),
+                    left,
+                },
+                taken,
+                put,
+            };
+        }
         put += ended(line, &bytes[from..end], &mut out[put..]);
-        line = Begun::none();
+        line.count = 0;
         from = end + 1;
-        end = bytes::scan::find(bytes, from, taken, b'\n');
-    }
-    Fed {
-        reading: Reading {
-            begun: extended(line, &bytes[from..taken]),
-            left,
-        },
-        taken,
-        put,
     }
 }
 
@@ -121,6 +130,97 @@ pub fn finish(reading: Reading, out: &mut [u8]) -> Fed
         taken: fed.taken,
         put: fed.put,
     }
+}
+
+// Where the first line feed is, from a place up to another, or the other where none is. Before the line feed of most lines are 26
+// bytes, or 27 with a carriage return: so 24 are tested as words, and four by themselves.
+fn line_feed(bytes: &[u8], from: usize, to: usize) -> usize
+    requires { ⌜ (from ≤ to) × (to ≤ length (now bytes)) ⌝ }
+    ensures { λ r. ⌜ FirstFeed from to (now (bytes .entry)) r ⌝ }
+{
+    if to - from < 28 {
+        return by_words(bytes, from, to);
+    }
+    if !(is_clear(bytes, from) & is_clear(bytes, from + 8) & is_clear(bytes, from + 16)) {
+        return by_words(bytes, from, to);
+    }
+    let near = bytes::scan::find(bytes, from + 24, from + 28, b'\n');
+    if near < from + 28 {
+        return near;
+    }
+    by_blocks(bytes, from + 28, to)
+}
+
+// The same, for a line that is longer: by blocks, and where a line feed may be, by words.
+fn by_blocks(bytes: &[u8], from: usize, to: usize) -> usize
+    requires { ⌜ (from ≤ to) × (to ≤ length (now bytes)) ⌝ }
+    ensures { λ r. ⌜ FirstFeed from to (now (bytes .entry)) r ⌝ }
+{
+    let mut at = from;
+    while BLOCK <= to - at {
+        if !is_clear_block(bytes, at) {
+            let end = by_words(bytes, at, at + BLOCK);
+            if end < at + BLOCK {
+                return end;
+            }
+        }
+        at += BLOCK;
+    }
+    by_words(bytes, at, to)
+}
+
+// The same, by words, and where a line feed may be, by bytes.
+fn by_words(bytes: &[u8], from: usize, to: usize) -> usize
+    requires { ⌜ (from ≤ to) × (to ≤ length (now bytes)) ⌝ }
+    ensures { λ r. ⌜ FirstFeed from to (now (bytes .entry)) r ⌝ }
+{
+    let mut at = from;
+    while WORD <= to - at {
+        if !is_clear(bytes, at) {
+            let end = bytes::scan::find(bytes, at, at + WORD, b'\n');
+            if end < at + WORD {
+                return end;
+            }
+        }
+        at += WORD;
+    }
+    bytes::scan::find(bytes, at, to, b'\n')
+}
+
+// That no line feed is in a block. In one expression, so that its words are tested together.
+fn is_clear_block(bytes: &[u8], at: usize) -> bool
+    requires { ⌜ at + 128 ≤ length (now bytes) ⌝ }
+    ensures { λ r. ⌜ (r ≡ true → Clear at (at + 128) (now (bytes .entry))) ⌝ }
+{
+    is_clear(bytes, at)
+        & is_clear(bytes, at + 8)
+        & is_clear(bytes, at + 16)
+        & is_clear(bytes, at + 24)
+        & is_clear(bytes, at + 32)
+        & is_clear(bytes, at + 40)
+        & is_clear(bytes, at + 48)
+        & is_clear(bytes, at + 56)
+        & is_clear(bytes, at + 64)
+        & is_clear(bytes, at + 72)
+        & is_clear(bytes, at + 80)
+        & is_clear(bytes, at + 88)
+        & is_clear(bytes, at + 96)
+        & is_clear(bytes, at + 104)
+        & is_clear(bytes, at + 112)
+        & is_clear(bytes, at + 120)
+}
+
+// That no line feed is in a word; where 0x8A is in it, which is a line feed with a bit more, this is not said either. The first
+// constant turns the lower seven bits of both, and of no other byte, into ones, so that with 1 more they have an eighth; no byte
+// carries into the next. The first byte is read as the highest: the other way round, the compiler tests two words at a time, with
+// instructions that take longer in an emulator.
+fn is_clear(bytes: &[u8], at: usize) -> bool
+    requires { ⌜ at + 8 ≤ length (now bytes) ⌝ }
+    ensures { λ r. ⌜ (r ≡ true → Clear at (at + 8) (now (bytes .entry))) ⌝ }
+{
+    let word = four(bytes, at) as u64 * 4_294_967_296 + four(bytes, at + 4) as u64;
+    let marked = ((word ^ 0x7575_7575_7575_7575) & 0x7F7F_7F7F_7F7F_7F7F) + 0x0101_0101_0101_0101;
+    marked & 0x8080_8080_8080_8080 == 0
 }
 
 // How many bytes may be taken for so much room.

@@ -5,15 +5,15 @@ use native.Mathlib.Omega.{arith}
 use lib.ListN.{length, take}
 use borrow.Author.Needs.{needs}
 use Rattle.stream.specs.Stream.{held, takenOf}
-use Rattle.stream.proofs.Feeding.{taken-is, no-more, Good, start, put-within, long, lent-room, sum-fits, turn, whole}
+use Rattle.stream.proofs.Feeding.{taken-is, no-more, Good, start, taken-within, put-within, long, lent-room, sum-fits, turn, whole}
 use Rattle.stream.proofs.feed.Statement.{statement}
 use Rattle.stream.proofs.feed.Tie as tie
 
 abbrev Inv-loop : tie.InvT-loop
-Inv-loop bytes out₀ taken left line₀ from₀ put₀ end₀ out line from put end = Good bytes (held line₀) out₀ taken out (held line) from put end
+Inv-loop bytes out₀ taken left line₀ from₀ put₀ out line from put = Good bytes (held line₀) out₀ taken out (held line) from put
 
 abbrev μ-loop : tie.MeasureT-loop
-μ-loop bytes out₀ taken left line₀ from₀ put₀ end₀ out line from put end = taken - from
+μ-loop bytes out₀ taken left line₀ from₀ put₀ out line from put = taken - from
 
 least-requires : tie.Need-least-requires Inv-loop μ-loop
 least-requires c κs = search needs
@@ -34,54 +34,11 @@ module _ (c : tie.After-least2 Inv-loop μ-loop) where
 sub-left : tie.Need-sub-left Inv-loop μ-loop
 sub-left c = no-more _ _ _ (is-taken (c .before)) .0
 
-find-requires : tie.Need-find-requires Inv-loop μ-loop
-find-requires c κs = search needs
-
 loop-holds : tie.Need-loop-holds Inv-loop μ-loop
-loop-holds c =
-    let d = c .before .before .before in
-    start _ _ _ (no-more (s d .args .reading .left) _ _ (is-taken d) .1) (c .find .ensures .0) (c .find .ensures .1)
+loop-holds c = let d = c .before .before in start _ _ _ (no-more (s d .args .reading .left) _ _ (is-taken d) .1)
 
-sub-ended : tie.Need-sub-ended Inv-loop μ-loop
-sub-ended c = search needs
-
-part-ended-start : tie.Need-part-ended-start Inv-loop μ-loop
-part-ended-start c = search needs
-
-part-ended-end : tie.Need-part-ended-end Inv-loop μ-loop
-part-ended-end c = search needs
-
-sub-ended-2 : tie.Need-sub-ended-2 Inv-loop μ-loop
-sub-ended-2 c = omega (arith, put-within (c .before .before .loop .inv))
-
-part-ended-start-2 : tie.Need-part-ended-start-2 Inv-loop μ-loop
-part-ended-start-2 c = put-within (c .before .before .loop .inv)
-
-part-ended-end-2 : tie.Need-part-ended-end-2 Inv-loop μ-loop
-part-ended-end-2 c = search needs
-
-ended-requires : tie.Need-ended-requires Inv-loop μ-loop
-ended-requires c κs = lent-room (c .before .before .before .loop .inv) (c .before .before .loop-test .taken)
-
-add-put : tie.Need-add-put Inv-loop μ-loop
-add-put c = omega (arith, sum-fits (c .before .before .before .before .before .before .loop .inv) (c .before .before .before .before .before .loop-test .taken) (c .before .before .ended .ensures .0))
-
-none-requires : tie.Need-none-requires Inv-loop μ-loop
-none-requires c κs = search needs
-
-add-from : tie.Need-add-from Inv-loop μ-loop
-add-from c = search needs
-
-find-requires-2 : tie.Need-find-requires-2 Inv-loop μ-loop
-find-requires-2 c κs = search needs
-
-loop-less : tie.Need-loop-less Inv-loop μ-loop
-loop-less c = search needs
-
-loop-again : tie.Need-loop-again Inv-loop μ-loop
-loop-again c =
-    let put = c .before .before .before .before .ended .ensures in
-    turn (c .before .before .before .before .before .before .before .before .loop .inv) (c .before .before .before .before .before .before .before .loop-test .taken) _ _ _ _ (c .before .none .ensures) (put .0) (put .1) (c .find2 .ensures .0) (c .find2 .ensures .1)
+line-feed-requires : tie.Need-line-feed-requires Inv-loop μ-loop
+line-feed-requires c κs = (c .loop .inv .within, taken-within (c .loop .inv))
 
 sub-extended : tie.Need-sub-extended Inv-loop μ-loop
 sub-extended c = search needs
@@ -96,12 +53,47 @@ extended-requires : tie.Need-extended-requires Inv-loop μ-loop
 extended-requires c κs = search needs
 
 same-length : tie.Need-same-length Inv-loop μ-loop
-same-length c = long (c .before .before .before .loop .inv)
+same-length c = long (c .before .before .before .before .loop .inv)
 
 returns : tie.Need-returns Inv-loop μ-loop
 returns c =
     let d = c .before .before .before .before .before .before .before in
-    whole (s d .args .reading) (c .before .before .before .loop .inv) (c .before .before .loop-test .left) (is-taken d) _ (c .extended .ensures)
+    whole (s d .args .reading) (c .before .before .before .before .loop .inv) (c .before .before .before .line-feed .ensures) (c .before .before .if1 .taken) (is-taken d) _ (c .extended .ensures)
+
+sub-ended : tie.Need-sub-ended Inv-loop μ-loop
+sub-ended c = search needs
+
+part-ended-start : tie.Need-part-ended-start Inv-loop μ-loop
+part-ended-start c = search needs
+
+part-ended-end : tie.Need-part-ended-end Inv-loop μ-loop
+part-ended-end c = search needs
+
+sub-ended-2 : tie.Need-sub-ended-2 Inv-loop μ-loop
+sub-ended-2 c = omega (arith, put-within (c .before .before .before .loop .inv))
+
+part-ended-start-2 : tie.Need-part-ended-start-2 Inv-loop μ-loop
+part-ended-start-2 c = put-within (c .before .before .before .loop .inv)
+
+part-ended-end-2 : tie.Need-part-ended-end-2 Inv-loop μ-loop
+part-ended-end-2 c = search needs
+
+ended-requires : tie.Need-ended-requires Inv-loop μ-loop
+ended-requires c κs = lent-room (c .before .before .before .before .loop .inv) (c .before .before .before .line-feed .ensures) (c .before .before .if1 .left)
+
+add-put : tie.Need-add-put Inv-loop μ-loop
+add-put c = omega (arith, sum-fits (c .before .before .before .before .before .before .before .loop .inv) (c .before .before .before .before .before .before .line-feed .ensures) (c .before .before .before .before .before .if1 .left) (c .before .before .ended .ensures .0))
+
+add-from : tie.Need-add-from Inv-loop μ-loop
+add-from c = search needs
+
+loop-less : tie.Need-loop-less Inv-loop μ-loop
+loop-less c = search needs
+
+loop-again : tie.Need-loop-again Inv-loop μ-loop
+loop-again c =
+    let put = c .before .before .ended .ensures in
+    turn (c .before .before .before .before .before .before .before .loop .inv) (c .before .before .before .before .before .before .line-feed .ensures) (c .before .before .before .before .before .if1 .left) _ _ (put .0) (put .1)
 
 pub feed-spec : {M : Type 1} → statement M
 feed-spec =
@@ -113,8 +105,14 @@ feed-spec =
     bytes-for-requires
     least-requires-2
     sub-left
-    find-requires
     loop-holds
+    line-feed-requires
+    sub-extended
+    part-extended-start
+    part-extended-end
+    extended-requires
+    same-length
+    returns
     sub-ended
     part-ended-start
     part-ended-end
@@ -123,14 +121,6 @@ feed-spec =
     part-ended-end-2
     ended-requires
     add-put
-    none-requires
     add-from
-    find-requires-2
     loop-less
-    loop-again
-    sub-extended
-    part-extended-start
-    part-extended-end
-    extended-requires
-    same-length
-    returns)
+    loop-again)
