@@ -32,6 +32,11 @@ def proved(name):
     path = os.path.join(PROVED, name)
     if not os.path.exists(path):
         raise SystemExit(f'{path} is not there: rt check {name} makes it')
+    return loaded(path)
+
+
+def loaded(path):
+    """The command that runs a program with the toolchain's own C library, by its own loader."""
     library = os.path.join(tools(), 'lib')
     return emulator() + [os.path.join(library, 'ld-linux-x86-64.so.2'), '--library-path', library, path]
 
@@ -116,3 +121,15 @@ def made(sources, room, headers=(), name='compiled', words=()):
 def compiled(sources, room, headers=(), name='compiled', words=()):
     """The command that runs a C program that is so made."""
     return emulator() + [made(sources, room, headers, name, words)]
+
+
+def linked(source, room):
+    """The command that runs a C program, compiled for x86-64 at -O2 into a folder, where a header of its own may be, and linked with
+    the files of the toolchain that rt links a program with: so it is started as that is."""
+    path, library = os.path.join(room, 'linked'), os.path.join(tools(), 'lib')
+    start = ['Scrt1.o', 'crti.o', 'crtbeginS.o']
+    end = ['libc.so.6', 'ld-linux-x86-64.so.2', 'libc_nonshared.a', 'libgcc.a', 'crtendS.o', 'crtn.o']
+    files = [*(os.path.join(library, name) for name in start), source, *(os.path.join(library, name) for name in end)]
+    words = ['-O2', '-fPIE', '-pie', '-nostdlib', '-Wall', '-Wextra', '-Werror', '-I', room, '-o', path]
+    subprocess.run(['x86_64-linux-gnu-gcc', *words, *files], check=True)
+    return loaded(path)

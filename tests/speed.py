@@ -1,13 +1,13 @@
 #!/usr/bin/env python3
 """How long the program `lines` takes, beside the same in plain C: python3 tests/speed.py [LINES], where rt check lines has been
-run and x86_64-linux-gnu-gcc is there with a static C library.
+run and x86_64-linux-gnu-gcc is there.
 
-Both programs are x86-64 and read the same files, one of each of the KINDS: 1,000,000 lines, or as many as the command line says,
-or as one endless line a hundred times as many bytes, up to the limit. They run in turn, once unmeasured and then as often as RUNS
-says. Prints of each kind how many lines, or of the endless one bytes, each reads in a second, and how many times as long `lines`
-takes, by the clock and by the processor's time: medians of the runs. No time is held to a limit: it ends with an error where the
-two outputs differ, on one of these files or on the lines that tests/lines.py makes for the program, or where a program cannot be
-built or run. tests/speed.c is the program in C, and tests/plain.py writes its tables.
+Both programs are x86-64, with the toolchain's C library and loader, and read the same files, one of each of the KINDS: 1,000,000
+lines, or as many as the command line says, or one endless line. They run in turn, once unmeasured and then as often as RUNS says.
+Prints for each kind how many lines or bytes each takes in a second, and how many times as long `lines` takes, by the clock and by
+the processor's time: medians of the runs. What is printed for empty inputs is what starting them takes. No time is held to a
+limit: it ends with an error where the two outputs differ, on one of these files or on the lines that tests/lines.py makes for the
+program, or where a program cannot be built or run. tests/speed.c is the program in C, and tests/plain.py writes its tables.
 """
 import os
 import random
@@ -15,6 +15,7 @@ import subprocess
 import sys
 import tempfile
 import time
+from functools import cache
 from itertools import cycle, islice
 from statistics import median
 
@@ -24,27 +25,26 @@ import program
 from lines import FAULTS, at, given, wrong
 
 LINES = max(1, int(sys.argv[1])) if len(sys.argv) > 1 else 1_000_000
-BYTES = min(100 * LINES, 99_999_999)      # of the endless line: at the limit, 100,000,000, `lines` would say so
+BYTES = 99_999_999             # of the endless line: one more, and `lines` would say that the limit is reached
 RUNS = 7
 SEED = 1989
 
 
+@cache
 def answered():
     """Lines that are answered: the codes in turn, each time at another place of their areas."""
     chance = random.Random(SEED)
-    codes = list(pages.AREAS)
-    for k in range(LINES):
-        code = codes[k % len(codes)]
-        south, north, west, east = pages.AREAS[code]
-        yield at(code, south + int(chance.random() * (north - south + 1)), west + int(chance.random() * (east - west + 1))) + b'\n'
+    areas = islice(cycle(pages.AREAS.items()), LINES)
+    return [at(code, chance.randint(south, north), chance.randint(west, east)) + b'\n' for code, (south, north, west, east) in areas]
 
 
-# what each file has, and how many lines or bytes are counted
+# what each file has, and how many lines, bytes or files are counted
 KINDS = {
-    'answered': (answered, LINES),
-    'refused, each fault in turn': (lambda: islice(cycle([wrong(fault) + b'\n' for fault in FAULTS]), LINES), LINES),
-    'CR LF': (lambda: (line.replace(b'\n', b'\r\n') for line in answered()), LINES),
-    'one endless line, by bytes': (lambda: [b'0' * BYTES], BYTES),
+    'lines that are answered': (answered, LINES),
+    'lines with each fault in turn': (lambda: islice(cycle([wrong(fault) + b'\n' for fault in FAULTS]), LINES), LINES),
+    'lines that end in CR LF': (lambda: (line[:-1] + b'\r\n' for line in answered()), LINES),
+    'bytes of an endless line': (lambda: [b'0' * BYTES], BYTES),
+    'empty inputs': (lambda: [], 1),
 }
 
 
@@ -88,7 +88,7 @@ def main():
     with tempfile.TemporaryDirectory() as room:
         with open(os.path.join(room, 'tables.h'), 'w', encoding='ascii') as f:
             f.write(plain.tables())
-        commands = {'lines': program.proved('lines'), 'C': program.compiled(['tests/speed.c'], room)}
+        commands = {'lines': program.proved('lines'), 'C': program.linked('tests/speed.c', room)}
         if len({subprocess.run(command, input=given(), stdout=subprocess.PIPE, check=True).stdout for command in commands.values()}) > 1:
             raise SystemExit('the two outputs for lines of every kind differ')
         for kind in KINDS:
