@@ -123,13 +123,16 @@ def compiled(sources, room, headers=(), name='compiled', words=()):
     return emulator() + [made(sources, room, headers, name, words)]
 
 
+# the files of the toolchain that rt links a program with, before its own and after them
+STARTS = ['Scrt1.o', 'crti.o', 'crtbeginS.o']
+ENDS = ['libc.so.6', 'ld-linux-x86-64.so.2', 'libc_nonshared.a', 'libgcc.a', 'crtendS.o', 'crtn.o']
+
+
 def linked(source, room):
-    """The command that runs a C program, compiled for x86-64 at -O2 into a folder, where a header of its own may be, and linked with
-    the files of the toolchain that rt links a program with: so it is started as that is."""
-    path, library = os.path.join(room, 'linked'), os.path.join(tools(), 'lib')
-    start = ['Scrt1.o', 'crti.o', 'crtbeginS.o']
-    end = ['libc.so.6', 'ld-linux-x86-64.so.2', 'libc_nonshared.a', 'libgcc.a', 'crtendS.o', 'crtn.o']
-    files = [*(os.path.join(library, name) for name in start), source, *(os.path.join(library, name) for name in end)]
+    """The command that runs a C program as one of this repository is run, compiled for x86-64 at -O2 into a folder, where a header of
+    its own may be, and linked with the same files."""
+    path = os.path.join(room, 'linked')
+    before, after = ([os.path.join(tools(), 'lib', name) for name in names] for names in (STARTS, ENDS))
     words = ['-O2', '-fPIE', '-pie', '-nostdlib', '-Wall', '-Wextra', '-Werror', '-I', room, '-o', path]
-    subprocess.run(['x86_64-linux-gnu-gcc', *words, *files], check=True)
+    subprocess.run(['x86_64-linux-gnu-gcc', *words, *before, source, *after], check=True)
     return loaded(path)

@@ -1,13 +1,14 @@
 #!/usr/bin/env python3
 """How long the program `lines` takes, beside the same in plain C: python3 tests/speed.py [LINES], where rt check lines has been
-run and x86_64-linux-gnu-gcc is there.
+run and x86_64-linux-gnu-gcc is there with a static C library.
 
-Both programs are x86-64, with the toolchain's C library and loader, and read the same files, one of each of the KINDS: 1,000,000
-lines, or as many as the command line says, or one endless line. They run in turn, once unmeasured and then as often as RUNS says.
-Prints for each kind how many lines or bytes each takes in a second, and how many times as long `lines` takes, by the clock and by
-the processor's time: medians of the runs. What is printed for empty inputs is what starting them takes. No time is held to a
-limit: it ends with an error where the two outputs differ, on one of these files or on the lines that tests/lines.py makes for the
-program, or where a program cannot be built or run. tests/speed.c is the program in C, and tests/plain.py writes its tables.
+The C program stands here twice: linked statically, and linked as rt links `lines`, which the toolchain's loader starts. All are
+x86-64 and read the same files, one of each of the KINDS: 1,000,000 lines, or as many as the command line says, or one endless
+line. They run in turn, once unmeasured and then as often as RUNS says. Prints for each kind how many lines or bytes each takes in a
+second, and how many times as long as each C `lines` takes, by the clock and by the processor's time: medians of the runs. What is
+printed for empty inputs is what starting them takes. No time is held to a limit: it ends with an error where two outputs differ, on
+one of these files or on the lines that tests/lines.py makes for the program, or where a program cannot be built or run.
+tests/speed.c is the program in C, and tests/plain.py writes its tables.
 """
 import os
 import random
@@ -77,20 +78,25 @@ def timed(kind, commands, room):
         for name, command in commands.items():
             times[name].append(run(command, path, out[name]))
     if len({content(answers) for answers in out.values()}) > 1:
-        raise SystemExit(f'{kind}: the two outputs differ')
+        raise SystemExit(f'{kind}: two outputs differ')
     clock, processor = ({name: median(t[k] for t in found[1:]) for name, found in times.items()} for k in (0, 1))
-    a_second = ', '.join(f'{name} {count / clock[name]:,.0f} a second' for name in commands)
-    by_clock, by_processor = (t['lines'] / t['C'] for t in (clock, processor))
-    print(f'{kind}: {a_second}; lines takes {by_clock:.2f} times as long by the clock, {by_processor:.2f} by the processor', flush=True)
+    print(kind + ': ' + ', '.join(f'{name} {count / clock[name]:,.0f} a second' for name in commands))
+    for name in list(commands)[1:]:
+        by_clock, by_processor = (t['lines'] / t[name] for t in (clock, processor))
+        print(f'    lines takes {by_clock:.2f} times as long as {name} by the clock, {by_processor:.2f} by the processor', flush=True)
 
 
 def main():
     with tempfile.TemporaryDirectory() as room:
         with open(os.path.join(room, 'tables.h'), 'w', encoding='ascii') as f:
             f.write(plain.tables())
-        commands = {'lines': program.proved('lines'), 'C': program.linked('tests/speed.c', room)}
+        commands = {
+            'lines': program.proved('lines'),
+            'C': program.compiled(['tests/speed.c'], room),
+            'C linked alike': program.linked('tests/speed.c', room),
+        }
         if len({subprocess.run(command, input=given(), stdout=subprocess.PIPE, check=True).stdout for command in commands.values()}) > 1:
-            raise SystemExit('the two outputs for lines of every kind differ')
+            raise SystemExit('two outputs for lines of every kind differ')
         for kind in KINDS:
             timed(kind, commands, room)
 
