@@ -52,14 +52,7 @@ pub fn size_powers(u: Parts) -> [i64; 10]
 // The sum of each coefficient times its product of powers, which is exact. Who calls divides it, by a literal, and rounds once.
 // The table is three columns of one length: coefficients, powers of u, powers of v. It is worked by sizes, since a rounding of a
 // number that is not negative is the shorter one; and a term's sign is that of its class.
-pub fn sum(
-    coefficients: &[i64],
-    us: &[u8],
-    vs: &[u8],
-    powers: Powers,
-    u: Parts,
-    v: Parts,
-) -> i64
+pub fn sum(coefficients: &[i64], us: &[u8], vs: &[u8], powers: Powers, u: Parts, v: Parts) -> i64
     requires { ⌜ (length (now us) ≡ length (now coefficients)) × (length (now vs) ≡ length (now coefficients)) ⌝ }
     requires { ⌜ powers ≡ bothPowers (u .0) (v .0) ⌝ }
     requires { ⌜ Room (terms (now coefficients) (now us) (now vs)) (sizePowers (u .0)) (sizePowers (v .0)) ⌝ }

@@ -157,5 +157,8 @@ pub(crate) fn value(
     requires { ⌜ Fits divisor (terms (now coefficients) (now us) (now vs)) (place .u .0) (place .v .0) ⌝ }
     ensures { λ r. ⌜ r ≡ equationAt divisor (terms (now (coefficients .entry)) (now (us .entry)) (now (vs .entry))) (place .u .0) (place .v .0) ⌝ }
 {
-    whole::rounded(equation::sum(coefficients, us, vs, powers, place.u, place.v), divisor) as i32
+    whole::rounded(
+        equation::sum(coefficients, us, vs, powers, place.u, place.v),
+        divisor,
+    ) as i32
 }

@@ -99,8 +99,22 @@ pub(crate) fn values(place: Place) -> Values
     let powers = Powers::of(place.u, place.v);
     Values {
         geoid: false,
-        first: value(Parts::DIVISOR, &LATITUDE, &LATITUDE_U, &LATITUDE_V, powers, place),
-        second: value(Parts::DIVISOR, &LONGITUDE, &LONGITUDE_U, &LONGITUDE_V, powers, place),
+        first: value(
+            Parts::DIVISOR,
+            &LATITUDE,
+            &LATITUDE_U,
+            &LATITUDE_V,
+            powers,
+            place,
+        ),
+        second: value(
+            Parts::DIVISOR,
+            &LONGITUDE,
+            &LONGITUDE_U,
+            &LONGITUDE_V,
+            powers,
+            place,
+        ),
         third: value(Parts::DIVISOR, &HEIGHT, &HEIGHT_U, &HEIGHT_V, powers, place),
     }
 }

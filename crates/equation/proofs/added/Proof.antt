@@ -261,7 +261,7 @@ loop-again : tie.Need-loop-again Inv-loop μ-loop
 loop-again c = (
   omega (arith, l c .loop-test .taken),
   (λ n. set (l c .before .loop .inv .1 n) (class (l c)) (gives _+ℤ_ (now-is c) (gives _*ℤ_ (coefficient-is c) (times-is c) (value-fits c)) (next-fits c) .reads n))
-  ∙ added-is c,
+      ∙ added-is c,
 )
 
 loop-holds : tie.Need-loop-holds Inv-loop μ-loop

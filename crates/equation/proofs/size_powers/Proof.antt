@@ -180,7 +180,7 @@ returns c =
     let out = c .before .before .loop .out in
     sym (take-all 10 (set out 9 (toZ w64 (c .scaled .result))) (simp length-set (omega (arith, e .long))))
     ∙ one-more out (size a) 9 (omega (arith, e .long)) (ap (λ (n : ℕ). take n out) (sym (nine (c .before))) ∙ e .done ∙ ap (powersOf scale (pos (size a))) (nine (c .before)))
-      (as-signed a {n = 9} (lit< tt) (ninth c) .reads ∙ sym (power-pos scale (size a) 9))
+    (as-signed a {n = 9} (lit< tt) (ninth c) .reads ∙ sym (power-pos scale (size a) 9))
     ∙ ap (λ (n : ℕ). powersOf scale (pos n) 10) (size-is a)
 
 pub size-powers-spec : {M : Type 1} → statement M
