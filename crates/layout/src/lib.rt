@@ -16,7 +16,7 @@ pub enum LayoutAnswer {
     Refused(Refusal),
 }
 
-pub const LAST_CODE: u8 = 6;
+const LAST_CODE: u8 = 6;
 
 // the most that a sheet may have
 const MOST_DATUMS: usize = 6;
