@@ -22,7 +22,7 @@ use Rattle.equation.specs.Equation.{Term, term, product, sum}
 use Rattle.equation.specs.Room.{EachFits, sizes}
 use Rattle.equation.specs.Inside.{sizePowers, classOf, addedTo, classSum, classSums, joined}
 use Rattle.equation.proofs.Steps.{powers-at, power-by-size}
-use Rattle.equation.proofs.Sums.{value, size, size-is, none, sum-first, sizes-first}
+use Rattle.equation.proofs.Sums.{value, size, size-is, none, sizes-first}
 
 -- ---- what holds of the four classes holds of every term's
 by-parities : (P : ℕ → ℕ → Type 0) → P 0 0 → P 0 1 → P 1 0 → P 1 1 → (i j : ℕ) → P (i % 2) (j % 2)
@@ -37,7 +37,7 @@ by-parities P a b c d i j = go (i % 2) (j % 2) (omega arith) (omega arith)
     go zero (suc (suc y)) h k = absurd (omega arith)
     go (suc zero) (suc (suc y)) h k = absurd (omega arith)
 
-pub by-class : (P : ℕ → Type 0) → P 0 → P 1 → P 2 → P 3 → (t : Term) → P (classOf t)
+by-class : (P : ℕ → Type 0) → P 0 → P 1 → P 2 → P 3 → (t : Term) → P (classOf t)
 by-class P a b c d (term _ i j) = by-parities (λ x y. P (x * 2 + y)) a b c d i j
 
 -- what a term adds to each class

@@ -47,7 +47,7 @@ length-terms (c ∷ cs) (i ∷ us) (j ∷ vs) p q = ap suc (length-terms cs us v
 
 module _ (pu pv : List ℤ) where
   -- ---- one term more
-  pub sum-first : (t : Term) (ts : List Term) → sum scale (t ∷ ts) pu pv ≡ value t pu pv +ℤ sum scale ts pu pv
+  sum-first : (t : Term) (ts : List Term) → sum scale (t ∷ ts) pu pv ≡ value t pu pv +ℤ sum scale ts pu pv
   unfolding sum
   sum-first (term c i j) ts = refl
 

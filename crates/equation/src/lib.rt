@@ -4,7 +4,6 @@ ghost use mathlib.Core.Path.{_≡_};
 ghost use Prim.Native.Nat.{_+_, _<_, _≤_};
 ghost use lib.IntN.{pos, natAbs};
 ghost use lib.ListN.{length, getD, take};
-ghost use lib.Signed.{ltZ};
 ghost use Rattle.whole.specs.Round.{scale};
 ghost use Rattle.equation.specs.Powers.{powersOf};
 ghost use Rattle.equation.specs.Equation.{terms, sum};

@@ -7,7 +7,6 @@ use super::value;
 use equation::Powers;
 use kinds::LocalLatitude;
 use whole::Parts;
-ghost use mathlib.Core.Path.{_≡_};
 ghost use Rattle.tables.specs.Inside.{evaluatedAt, Say, AllFit};
 ghost use Rattle.tables.specs.Qatar.{qatar};
 

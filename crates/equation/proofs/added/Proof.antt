@@ -2,7 +2,7 @@
 use mathlib.Core.Path.{_≡_, refl, sym, ap, _∙_, subst}
 use mathlib.Core.Bool.{true}
 use mathlib.Core.List.{List}
-use Prim.Native.Nat.{ℕ, zero, suc, _+_, _-_, _*_, _%_, _<_, _≤_, _^_}
+use Prim.Native.Nat.{ℕ, zero, suc, _+_, _-_, _*_, _%_, _<_, _≤_}
 use native.Mathlib.Nat.{lt-of-le-of-lt, le-trans}
 use native.Mathlib.Omega.{arith}
 use lib.Dec.{T, lit<}
@@ -14,13 +14,13 @@ use mir.Syntax.{w64}
 use mir.Val.{Fits, SFits, ofZ, toZ}
 use Rattle.whole.specs.Round.{roundHalfUp, roundDiv, scale}
 use Rattle.whole.proofs.Sizes.{abs-*}
-use Rattle.whole.proofs.Words.{Holds, of, to, wr, asks, gives, small, from-unsigned, to-unsigned, to-unsigned-asks, sized}
+use Rattle.whole.proofs.Words.{Holds, of, to, asks, gives, small, from-unsigned, to-unsigned, to-unsigned-asks, sized}
 use Rattle.whole.proofs.Signs.{signed-round}
 use Rattle.equation.specs.Equation.{Term, term, product, terms}
 use Rattle.equation.specs.Room.{Fitting, sizes, Room}
-use Rattle.equation.specs.Inside.{classOf, classSum, classSums}
+use Rattle.equation.specs.Inside.{classOf, classSums}
 use Rattle.equation.proofs.Sums.{value, size-is, none, terms-at, length-terms, sizes-take, sizes-at, each-at}
-use Rattle.equation.proofs.Classes.{by-class, classes-next, classes-size, spread}
+use Rattle.equation.proofs.Classes.{classes-next, classes-size, spread}
 use Rattle.equation.proofs.added.Statement.{statement}
 use Rattle.equation.proofs.added.Tie as tie
 

@@ -1,12 +1,11 @@
 -- `equation::class_sums` meets its contract. Assumes nothing.
 use mathlib.Core.Path.{_≡_, refl, ap, _∙_}
 use mathlib.Core.List.{List}
-use Prim.Native.Nat.{ℕ, _+_, _-_, _<_, _≤_, min}
+use Prim.Native.Nat.{_-_, _<_, _≤_}
 use native.Mathlib.Omega.{arith}
 use borrow.Author.Needs.{needs}
 use lib.ListN.{length, take}
 use lib.Seq.{take-all}
-use lib.IntN.{ℤ}
 use Rattle.equation.specs.Equation.{Term, terms}
 use Rattle.equation.specs.Inside.{classSum, classSums}
 use Rattle.equation.proofs.Sums.{length-terms}

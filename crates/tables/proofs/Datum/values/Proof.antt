@@ -1,5 +1,5 @@
 -- `tables::Datum::values` meets its contract. Assumes nothing.
-use mathlib.Core.Path.{_≡_, sym, ap, _∙_, subst, subst₂}
+use mathlib.Core.Path.{_≡_, sym, _∙_, subst, subst₂}
 use lib.Dec.{T}
 use lib.IntN.{ℤ}
 use Rattle.tables.specs.Page.{Page}
