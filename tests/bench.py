@@ -22,8 +22,8 @@ import plain
 import program
 import tuned
 
-# How many times as many instructions as plain C, and as tuned C, the archive may take for an answer, and for a refusal.
-POINT, OTHER, REFUSED = (0.5, 2.5), (1.0,), (1.1,)
+# How many times as many instructions as plain C, and as tuned C, the archive may take for an answer.
+POINT, OTHER = (0.5, 2.5), (1.0,)
 LIMITS = {
     'shift, code 1': POINT,
     'shift, code 2': POINT,
@@ -31,7 +31,7 @@ LIMITS = {
     'shift, code 4': POINT,
     'geoid, code 5': POINT,
     'geoid, code 6': POINT,
-}                              # and OTHER of any other call that is answered, and REFUSED of one that is not
+}                              # and OTHER of any other call
 
 SIDES = ['archive', 'plain C', 'tuned C']
 HEADERS = ['include', 'tests/bench']
@@ -86,7 +86,7 @@ def row(name, counts):
 
 def passed(name, counts):
     """The limits that a call passes, in words."""
-    limits = zip(SIDES[1:], counts[1:], LIMITS.get(name, REFUSED if ':' in name else OTHER))
+    limits = zip(SIDES[1:], counts[1:], LIMITS.get(name, OTHER))
     return [f'{name}: {counts[0] / count:.3f} times {side}, and {limit} is the limit'
             for side, count, limit in limits if counts[0] > limit * count]
 

@@ -68,15 +68,24 @@ module _ (k : Coordinate) (t : List ℕ) where
             (λ e. ap (λ (m : ℕ). tested (hasText k (pos m)) (pos m)) (ms e) ∙ sym (right-length long ∙ simp (kinds, e, ne-eqb (letter k t) letterS h)))
             (λ e. simp (none e) (wrong-range e))
 
--- ---- what one number says of an angle: its ms, or a number that no kind takes
-pub record Said (s : Bool) (m n : ℕ) : Type 0 where
+-- ---- what one number says of an angle
+-- that its bytes are not of their kind
+pub not-said : (a s : Bool) (m : ℕ) {n : ℕ} → says n a s m → n ≡ 1296000001 → a ≡ false
+not-said false s m is h = refl
+not-said true false m is h = absurd (omega (arith, is, h))
+not-said true true m is h = absurd (omega (arith, is .0, is .1, h))
+
+-- or that they are, and its ms, or a number that no kind takes
+pub record Said (a s : Bool) (m n : ℕ) : Type 0 where
+  pub kinds : a ≡ true
   pub small : n ≤ 1296000000
   pub ms : s ≡ true → n ≡ m
   pub none : s ≡ false → n ≡ 1296000000
 
-pub said : (s : Bool) (m : ℕ) {n : ℕ} → says n s m → Said s m n
-said false m is = record { small = omega (arith, is); ms = λ e. absurd (false≢true e); none = λ e. is }
-said true m is = record { small = omega (arith, is .0, is .1); ms = λ e. is .0; none = λ e. absurd (false≢true (sym e)) }
+pub said : (a s : Bool) (m : ℕ) {n : ℕ} → says n a s m → (n ≡ 1296000001 → ⊥) → Said a s m n
+said false s m is h = absurd (h is)
+said true false m is h = record { kinds = refl; small = omega (arith, is); ms = λ e. absurd (false≢true e); none = λ e. is }
+said true true m is h = record { kinds = refl; small = omega (arith, is .0, is .1); ms = λ e. is .0; none = λ e. absurd (false≢true (sym e)) }
 
 -- a whole turn and more is no longitude
 pub past-a-turn : (n : ℕ) → 1296000000 ≤ n → isLongitude (pos n) ≡ false

@@ -7,16 +7,17 @@ use lib.Bits.{bitXor}
 use Rattle.whole.specs.Digits.{fromDigits}
 use Rattle.kinds.specs.Bytes.{part}
 use Rattle.numbers.specs.Numbers.{number}
-use Rattle.position.specs.Text.{latitude, minutes, seconds, thousandths, inSixties, angle}
+use Rattle.position.specs.Text.{latitude, minutes, seconds, thousandths, isAngle, inSixties, angle}
 
--- what a number says: that minutes or seconds are from 60 up, or the ms
-abbrev pub says : ℕ → Bool → ℕ → Type 0
-says n false ms = n ≡ 1296000000
-says n true ms = (n ≡ ms) × (ms < 1000000000)
+-- what a number says: that bytes are not of their kind, that minutes or seconds are from 60 up, or the ms
+abbrev pub says : ℕ → Bool → Bool → ℕ → Type 0
+says n false sixties ms = n ≡ 1296000001
+says n true false ms = n ≡ 1296000000
+says n true true ms = (n ≡ ms) × (ms < 1000000000)
 
 -- of a text of a latitude's form
 abbrev pub saysAngle : ℕ → List ℕ → Type 0
-saysAngle n t = says n (inSixties latitude t) (angle latitude t)
+saysAngle n t = says n (isAngle latitude t) (inSixties latitude t) (angle latitude t)
 
 -- the eight bytes `mmss.sss` in one word, less the bits of `0000.000`
 unfoldable pub figures : List ℕ → ℕ

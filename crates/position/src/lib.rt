@@ -26,19 +26,17 @@ ghost use Rattle.position.specs.Text.{latitude, longitude, degrees, isAn
 pub fn read_latitude(text: &[u8]) -> LocalLatitudeAnswer
     ensures { λ r. ⌜ localLatitude r ≡ read latitude (now (text .entry)) ⌝ }
 {
-    // a part, with every byte: as it came, the text would be read from memory once more
-    let all = &text[0..];
-    if all.len() != LATITUDE_BYTES {
+    if text.len() != LATITUDE_BYTES {
         return LocalLatitudeAnswer::Refused(Refusal::Length);
     }
-    let letter = all[10];
+    let letter = text[10];
     if !((letter == b'N') | (letter == b'S')) {
         return LocalLatitudeAnswer::Refused(Refusal::Kind);
     }
-    if !is_angle(all) {
+    let ms = read_angle(text);
+    if ms == WRONG_KIND {
         return LocalLatitudeAnswer::Refused(Refusal::Kind);
     }
-    let ms = read_angle(all);
     if letter == b'S' {
         return southern(ms);
     }
@@ -58,11 +56,10 @@ pub fn read_longitude(text: &[u8]) -> LocalLongitudeAnswer
     if !(is_digit(hundreds) & (letter == b'E')) {
         return LocalLongitudeAnswer::Refused(Refusal::Kind);
     }
-    let rest = &text[1..];
-    if !is_angle(rest) {
+    let ms = read_angle(&text[1..]);
+    if ms == WRONG_KIND {
         return LocalLongitudeAnswer::Refused(Refusal::Kind);
     }
-    let ms = read_angle(rest);
     LocalLongitude::new((digit(hundreds) * HUNDRED_DEGREES + ms) as i64)
 }
 
@@ -111,6 +108,9 @@ const HUNDRED_DEGREES: u64 = 100 * DEGREE;
 // what `read_angle` answers where minutes or seconds are from 60 up: a whole turn, which no kind takes
 const WRONG_RANGE: u64 = 360 * DEGREE;
 
+// and where a byte is not of its kind
+const WRONG_KIND: u64 = WRONG_RANGE + 1;
+
 // the bits of `figures` that are none where its bytes are digits and a point
 const NO_FIGURE: u64 = 0xF0F0_F0F0_FFF0_F0F0;
 
@@ -136,17 +136,20 @@ fn digit(b: u8) -> u64
     b as u64 - b'0' as u64
 }
 
-// Of the 11 bytes of a latitude's form, which are of their kinds: the ms that those before the letter say, or that they say none.
-// One number, since an enum would go through memory.
+// Of the 11 bytes of a latitude's form: the ms that those before the letter say, or why they say none. One number, since an
+// enum would go through memory. So would t, if it were handed on as it came: `all` is a part of it, with every byte.
 fn read_angle(t: &[u8]) -> u64
     requires { ⌜ length (now t) ≡ 11 ⌝ }
-    requires { ⌜ isAngle latitude (now t) ≡ true ⌝ }
     ensures { λ r. ⌜ saysAngle r (now (t .entry)) ⌝ }
 {
-    if !in_sixties(t) {
+    let all = &t[0..];
+    if !is_angle(all) {
+        return WRONG_KIND;
+    }
+    if !in_sixties(all) {
         return WRONG_RANGE;
     }
-    angle(t)
+    angle(all)
 }
 
 // They are digits and a point. A digit is 0x30 to 0x39, so what `figures` leaves of it is below 16, and still is with 6 more;

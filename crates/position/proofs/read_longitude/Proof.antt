@@ -17,7 +17,7 @@ use Rattle.whole.proofs.Words.{from-unsigned}
 use Rattle.kinds.proofs.Bytes.{at}
 use Rattle.position.specs.Text.{latitude, longitude, letterE, letter, isLetter, isAngle, inSixties, angle}
 use Rattle.position.proofs.Bytes.{rest, longitude-is-angle, longitude-in-sixties, longitude-angle}
-use Rattle.position.proofs.Reading.{two-fail, wrong-length, wrong-kind, not-south, Said, said, past-a-turn}
+use Rattle.position.proofs.Reading.{two-fail, wrong-length, wrong-kind, not-south, not-said, Said, said, past-a-turn}
 use Rattle.position.proofs.read_longitude.Statement.{statement}
 use Rattle.position.proofs.read_longitude.Tie as tie
 
@@ -40,20 +40,20 @@ returns-2 c =
     let h : (isDigit (at t 0) && isLetter longitude (letter longitude t)) ≡ false = simp (← c .before .is-digit .ensures) (not-true _ (c .if2 .taken)) in
     wrong-kind longitude t (e .if1 .left) (simp (← longitude-is-angle t (e .if1 .left)) (two-fail (isDigit (at t 0)) (isAngle latitude (rest t)) (isLetter longitude (letter longitude t)) h))
 
-sub-rest : tie.Need-sub-rest
-sub-rest c = search needs
+sub-read-angle : tie.Need-sub-read-angle
+sub-read-angle c = search needs
 
-part-rest-start : tie.Need-part-rest-start
-part-rest-start c = search needs
+part-read-angle-start : tie.Need-part-read-angle-start
+part-read-angle-start c = search needs
 
-part-rest-end : tie.Need-part-rest-end
-part-rest-end c = search needs
+part-read-angle-end : tie.Need-part-read-angle-end
+part-read-angle-end c = search needs
 
-is-angle-requires : tie.Need-is-angle-requires
-is-angle-requires c κs = search needs
+read-angle-requires : tie.Need-read-angle-requires
+read-angle-requires c κs = search needs
 
 -- the text, past the test of its first byte and its letter
-module _ (c : tie.After-is-angle) where
+module _ (c : tie.After-read-angle) where
   abbrev t : List ℕ
   t = c .before .before .before .before .before .before .before .before .args .text .now
 
@@ -65,30 +65,33 @@ module _ (c : tie.After-is-angle) where
       let b = both _ _ (not-false _ (c .before .before .if2 .left)) in
       (sym (c .before .before .before .is-digit .ensures) ∙ b .0, b .1)
 
+  abbrev a : Bool
+  a = isAngle latitude (rest t)
+
+  abbrev s : Bool
+  s = inSixties latitude (rest t)
+
+  abbrev m : ℕ
+  m = angle latitude (rest t)
+
   -- of the whole text
-  angles : {b : Bool} → isAngle latitude (rest t) ≡ b → isAngle longitude t ≡ b
+  angles : {b : Bool} → a ≡ b → isAngle longitude t ≡ b
   angles h = sym (longitude-is-angle t long) ∙ simp (first .0) h
 
-  sixties : {b : Bool} → inSixties longitude t ≡ b → inSixties latitude (rest t) ≡ b
+  sixties : {b : Bool} → inSixties longitude t ≡ b → s ≡ b
   sixties h = longitude-in-sixties t long ∙ h
 
 returns-3 : tie.Need-returns-3
 returns-3 c =
-    let k = c .before in
-    wrong-kind longitude (t k) (long k) (simp (angles k (sym (k .is-angle .ensures) ∙ not-true _ (c .if3 .taken))))
+    let r = c .before in
+    wrong-kind longitude (t r) (long r) (simp (angles r (not-said (a r) (s r) (m r) (r .read-angle .ensures) (c .if3 .taken))))
 
--- past the test of the rest
-kinds : (c : tie.Else3) → isAngle latitude (rest (t (c .before))) ≡ true
-kinds c = sym (c .before .is-angle .ensures) ∙ not-false _ (c .if3 .left)
-
-read-angle-requires : tie.Need-read-angle-requires
-read-angle-requires c κs = search (needs, kinds c)
-
-right : (c : tie.After-read-angle) → Said (inSixties latitude (rest (t (c .before .before)))) (angle latitude (rest (t (c .before .before)))) (c .read-angle .result)
-right c = said (inSixties latitude (rest (t (c .before .before)))) (angle latitude (rest (t (c .before .before)))) (c .read-angle .ensures)
+-- past the test of what was read
+right : (c : tie.Else3) → Said (a (c .before)) (s (c .before)) (m (c .before)) (c .before .read-angle .result)
+right c = said (a (c .before)) (s (c .before)) (m (c .before)) (c .before .read-angle .ensures) (c .if3 .left)
 
 digit-requires : tie.Need-digit-requires
-digit-requires c κs = first (c .before .before) .0
+digit-requires c κs = first (c .before) .0
 
 mul-new : tie.Need-mul-new
 mul-new c = search needs
@@ -104,14 +107,14 @@ new-requires c κs = search needs
 
 returns-4 : tie.Need-returns-4
 returns-4 c =
-    let r = c .before .before in
-    let k = r .before .before in
+    let e = c .before .before in
+    let r = e .before in
     let n = c .before .digit .result * 360000000 + r .read-angle .result in
-    let small : n < 2 ^ hbits w64 = omega (arith, c .before .digit .ensures .1, right r .small) in
-    let ms : inSixties longitude (t k) ≡ true → n ≡ angle longitude (t k) = λ h. simp (c .before .digit .ensures .0, right r .ms (sixties k h)) (longitude-angle (t k) (long k)) in
+    let small : n < 2 ^ hbits w64 = omega (arith, c .before .digit .ensures .1, right e .small) in
+    let ms : inSixties longitude (t r) ≡ true → n ≡ angle longitude (t r) = λ h. simp (c .before .digit .ensures .0, right e .ms (sixties r h)) (longitude-angle (t r) (long r)) in
     c .new .ensures
     ∙ ap (λ (x : ℤ). tested (isLongitude x) x) (from-unsigned {w = w64} small .reads)
-    ∙ not-south longitude (t k) (long k) (joined (angles k (kinds (r .before))) (first k .1)) ms (λ h. omega (arith, eqb-true (letter longitude (t k)) letterE (first k .1), h)) (λ h. past-a-turn n (omega (arith, right r .none (sixties k h))))
+    ∙ not-south longitude (t r) (long r) (joined (angles r (right e .kinds)) (first r .1)) ms (λ h. omega (arith, eqb-true (letter longitude (t r)) letterE (first r .1), h)) (λ h. past-a-turn n (omega (arith, right e .none (sixties r h))))
 
 pub read-longitude-spec : {M : Type 1} → statement M
 read-longitude-spec =
@@ -122,12 +125,11 @@ read-longitude-spec =
     shared-slice-read-letter
     is-digit-requires
     returns-2
-    sub-rest
-    part-rest-start
-    part-rest-end
-    is-angle-requires
-    returns-3
+    sub-read-angle
+    part-read-angle-start
+    part-read-angle-end
     read-angle-requires
+    returns-3
     digit-requires
     mul-new
     add-new
