@@ -142,11 +142,11 @@ def placed(code, text):
     """Each table stands under its own name, in the definition's page and in the code's calls, and is divided by the scale."""
     bounds(code)               # ends where the definition has it otherwise
     tables = [COLUMNS[name] for name, *_ in document_000.equations(code)]
-    calls = [f'super::value(Parts::DIVISOR, &{name}, &{name}_U, &{name}_V, pu, pv)' for name in tables] + ['0', '0']
+    calls = [f'value(Parts::DIVISOR, &{name}, &{name}_U, &{name}_V, powers, place)' for name in tables] + ['0', '0']
     flag = f'geoid: {str(family_of(code) == "geoid").lower()},'
     fields = flag + ''.join(f'{value}: {call},' for value, call in zip(VALUES, calls))
     body, = only(r'pub\(crate\) fn values\(.*\n(?: .*\n)*\{\n((?: .*\n)*)\}', text, f'code {code}: values')
-    if squeezed(body) != squeezed(f'Values {{{fields}}}'):
+    if squeezed(body) != squeezed(f'let powers = Powers::of(place.u, place.v); Values {{{fields}}}'):
         wrong.append(f'code {code}: a table stands for another in the code, or its sum is not over the scale')
 
 

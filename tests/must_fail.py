@@ -138,10 +138,10 @@ def write(path, found):
 
 def self_test():
     """Crate `whole` with a wrong `size`; beside it a right program in the place of a slip, and a right `rounded`, which fails only
-    because it calls `size`: both are found out, and the wrong one is not. And so are its four functions, none of which has two."""
+    because it calls `size`: both are found out, and the wrong one is not. And so are its six functions, none of which has two."""
     slip = slips.Slip('whole', 'test', 'wrong', 'one off below zero', [], [('src/lib.rt', '(-(x + 1)) as u64 + 1', '(-(x + 1)) as u64 + 0')])
     right = slips.Slip('whole', 'test', 'right', 'the lesser of two', [], [('src/lib.rt', 'if a < b { a } else { b }', 'if a <= b { a } else { b }')])
-    caller = slips.Slip('whole', 'test', 'caller', 'nothing', [], [('src/lib.rt', 'if n < 0 { -q } else { q }', 'if n < 0 {  -q } else { q }')])
+    caller = slips.Slip('whole', 'test', 'caller', 'nothing', [], [('src/lib.rt', 'with_sign(n < 0, nearest', 'with_sign(n < 0,  nearest')])
     with tempfile.TemporaryDirectory() as root:
         shutil.copytree('crates/whole', os.path.join(root, 'crates/whole'), ignore=lambda folder, names: [n for n in names if n == 'must-fail'])
         with open(os.path.join(root, 'crates.txt'), 'w', encoding='utf-8') as f:
@@ -152,7 +152,7 @@ def self_test():
         few = [name for _, name, own in table(root) if len(own) < FEWEST]
     seen = [re.search(r': (\w+) has no error of its own', line)[1] for line in wrong]
     print(f'found out: {", ".join(seen)}; with too few slips: {", ".join(few)}')
-    return seen == ['right', 'caller'] and sorted(few) == ['least', 'rounded', 'scaled', 'size']
+    return seen == ['right', 'caller'] and sorted(few) == ['least', 'nearest', 'rounded', 'scaled', 'size', 'with_sign']
 
 
 def main():
