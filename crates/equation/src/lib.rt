@@ -62,7 +62,8 @@ pub fn sum(coefficients: &[i64], us: &[u8], vs: &[u8], powers: Powers, u: Parts,
     joined(class_sums(coefficients, us, vs, pu, pv), u.0 < 0, v.0 < 0)
 }
 
-// The sum of all classes, each with its sign: below zero are those with an odd power of one of u and v that is below zero.
+// The sum of all classes, each with its sign, by whether u and v are below zero: a class with an odd power of one that is has the
+// other sign.
 fn joined(sums: [i64; 4], u: bool, v: bool) -> i64
     requires { ⌜ natAbs (getD sums 0 (pos 0)) + natAbs (getD sums 1 (pos 0)) + natAbs (getD sums 2 (pos 0)) + natAbs (getD sums 3 (pos 0)) < 9223372036854775808 ⌝ }
     ensures { λ r. ⌜ r ≡ joined u v sums ⌝ }

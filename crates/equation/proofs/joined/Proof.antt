@@ -7,18 +7,13 @@ use borrow.Author.Needs.{needs}
 use lib.ListN.{getD}
 use lib.IntN.{ℤ, pos, _+ℤ_}
 use mir.Syntax.{w64}
-use mir.Val.{SFits, ofZ, toZ}
-use mir.Facts.{toZ-ofZ}
+use mir.Val.{SFits, ofZ}
 use Rattle.whole.specs.Sign.{withSign}
 use Rattle.whole.proofs.Sizes.{abs-+}
 use Rattle.whole.proofs.Signs.{with-size}
 use Rattle.whole.proofs.Words.{Holds, of, to, wr, asks, gives, small}
 use Rattle.equation.proofs.joined.Statement.{statement}
 use Rattle.equation.proofs.joined.Tie as tie
-
--- an element, as a parameter
-reads : (x : ℤ) → SFits w64 x → toZ w64 (ofZ w64 x) ≡ x
-reads x f = toZ-ofZ f
 
 -- the four sums, with their signs, and what is summed of them on the way
 module _ (s : tie.Start) where
@@ -74,7 +69,7 @@ module _ (c : tie.After-with-sign) where
 
   q-is : Holds w64 (ofZ w64 (c .with-sign .result)) (q s)
   q-is =
-      to (c .with-sign .ensures ∙ ap (withSign (s .args .v)) (reads (at s 1) (record { sfits = c .before .with-sign-arg .given })))
+      to (c .with-sign .ensures ∙ ap (withSign (s .args .v)) (of {w = w64} {x = at s 1} (record { sfits = c .before .with-sign-arg .given }) .reads))
       (of (record { sfits = c .with-sign .ok }))
 
   two-is : Holds w64 (wr w64 _+ℤ_ (ofZ w64 (at s 0)) (ofZ w64 (c .with-sign .result))) (at s 0 +ℤ q s)
@@ -96,7 +91,7 @@ module _ (c : tie.After-with-sign2) where
 
   r-is : Holds w64 (ofZ w64 (c .with-sign2 .result)) (r (s b))
   r-is =
-      to (c .with-sign2 .ensures ∙ ap (withSign (s b .args .u)) (reads (at (s b) 2) (record { sfits = c .before .with-sign-arg2 .given })))
+      to (c .with-sign2 .ensures ∙ ap (withSign (s b .args .u)) (of {w = w64} {x = at (s b) 2} (record { sfits = c .before .with-sign-arg2 .given }) .reads))
       (of (record { sfits = c .with-sign2 .ok }))
 
   three-is : Holds w64 (wr w64 _+ℤ_ (wr w64 _+ℤ_ (ofZ w64 (at (s b) 0)) (ofZ w64 (b .with-sign .result))) (ofZ w64 (c .with-sign2 .result))) (at (s b) 0 +ℤ q (s b) +ℤ r (s b))
@@ -120,7 +115,7 @@ module _ (c : tie.After-with-sign3) where
   t-is =
       to
       (c .with-sign3 .ensures
-      ∙ (λ i. withSign (one (s (b d) .args .u) (s (b d) .args .v) i) (reads (at (s (b d)) 3) (record { sfits = c .before .with-sign-arg3 .given }) i)))
+      ∙ (λ i. withSign (one (s (b d) .args .u) (s (b d) .args .v) i) (of {w = w64} {x = at (s (b d)) 3} (record { sfits = c .before .with-sign-arg3 .given }) .reads i)))
       (of (record { sfits = c .with-sign3 .ok }))
     where
       one : (u v : Bool) → not (Bool·beq u v) ≡ cond u (not v) v

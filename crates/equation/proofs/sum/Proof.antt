@@ -5,8 +5,6 @@ use native.Mathlib.Nat.{lt-of-le-of-lt}
 use lib.IntN.{ℤ, pos}
 use lib.Signed.{ltZ}
 use mir.Syntax.{w64}
-use mir.Val.{SFits, ofZ, toZ}
-use mir.Facts.{toZ-ofZ}
 use Rattle.whole.proofs.Words.{of}
 use Rattle.equation.specs.Equation.{Term, terms}
 use Rattle.equation.specs.Room.{Room}
@@ -44,16 +42,12 @@ joined-requires c κs =
     rw (c .before .before .before .before .class-sums .ensures ∙ sums-are s)
     (lt-of-le-of-lt (classes-size (sizePowers (u s)) (sizePowers (v s)) (ts s)) (s .pre .1 .1 .within))
 
--- a field, as the code reads it back
-reads : (x : ℤ) → SFits w64 x → toZ w64 (ofZ w64 x) ≡ x
-reads x f = toZ-ofZ f
-
 returns : tie.Need-returns
 returns c =
     let s = c .before .before .before .before .before .before .before .before .before .before in
     of (record { sfits = c .joined .ok }) .reads
     ∙ c .joined .ensures
-    ∙ (λ n. joined (ltZ (reads (u s) (record { sfits = c .before .before .before .struct-told .given .0 .1 }) n) (pos 0)) (ltZ (reads (v s) (record { sfits = c .before .struct-told2 .given .0 .1 }) n) (pos 0)) ((c .before .before .before .before .before .class-sums .ensures ∙ sums-are s) n))
+    ∙ (λ n. joined (ltZ (of {w = w64} {x = u s} (record { sfits = c .before .before .before .struct-told .given .0 .1 }) .reads n) (pos 0)) (ltZ (of {w = w64} {x = v s} (record { sfits = c .before .struct-told2 .given .0 .1 }) .reads n) (pos 0)) ((c .before .before .before .before .before .class-sums .ensures ∙ sums-are s) n))
     ∙ sym (sum-joined (u s) (v s) (ts s) (s .pre .1 .1 .each))
 
 pub sum-spec : {M : Type 1} → statement M
