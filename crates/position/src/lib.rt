@@ -153,16 +153,18 @@ fn read_angle(t: &[u8]) -> u64
 }
 
 // They are digits and a point. A digit is 0x30 to 0x39, so what `figures` leaves of it is below 16, and still is with 6 more;
-// of the point it leaves nothing.
+// of the point it leaves nothing. A byte that carries into the next is none of these itself. Both tests of the word are one
+// expression, and the compiler makes one test of them.
 fn is_angle(t: &[u8]) -> bool
     requires { ⌜ length (now t) ≡ 11 ⌝ }
     ensures { λ r. ⌜ r ≡ isAngle latitude (now (t .entry)) ⌝ }
 {
     let word = figures(t);
-    if word & NO_FIGURE != 0 {
+    let more = std::num::wrapping_add_u64(word, 0x0606_0606_0006_0606);
+    if !((word & NO_FIGURE == 0) & (more & NO_FIGURE == 0)) {
         return false;
     }
-    ((word + 0x0606_0606_0006_0606) & NO_FIGURE == 0) & (is_digit(t[0]) & is_digit(t[1]))
+    is_digit(t[0]) & is_digit(t[1])
 }
 
 // The eight bytes `mmss.sss` in one word, less the bits of `0000.000`.
