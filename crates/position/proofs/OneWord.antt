@@ -27,6 +27,16 @@ octet t =
     (figure, at t 2) ∷ (figure, at t 3) ∷ (figure, at t 4) ∷ (figure, at t 5)
     ∷ (stop, at t 6) ∷ (figure, at t 7) ∷ (figure, at t 8) ∷ (figure, at t 9) ∷ []
 
+-- what the code tests of the word, and of the word with 6 more in each digit: no bit that a figure has not
+abbrev is-clear : ℕ → Bool
+is-clear n = eqb (bitAnd n 17361641481390059760) 0
+
+abbrev pub are-clear : ℕ → ℕ → Bool
+are-clear word more = is-clear word && is-clear more
+
+abbrev six-more : ℕ
+six-more = 434041036927796742
+
 -- the byte at P of a number, by what stands before it and after it
 byte-at : (P more m less : ℕ) → less < P → m < 256 → {n : ℕ} → n ≡ (more * 256 + m) * P + less → n / P % 256 ≡ m
 byte-at P more m less h k e =
@@ -70,31 +80,23 @@ module _ (t : List ℕ) (long : length t ≡ 11) where
         let one : (j : ℕ) → ltb (at t j) 256 ≡ true = λ j. lt-ltb (at t j) 256 (bytes j) in
         joined (one 2) (joined (one 3) (joined (one 4) (joined (one 5) (joined (one 6) (joined (one 7) (joined (one 8) (joined (one 9) refl)))))))
 
-    six-more-fits : eqb (bitAnd (figures t) 17361641481390059760) 0 ≡ true → figures t + 434041036927796742 < 18446744073709551616
+    six-more-fits : is-clear (figures t) ≡ true → figures t + six-more < 18446744073709551616
     six-more-fits = rw (left-is all-small) (sum-fits (octet t) all-small)
 
     -- where the sum is past a word, the first test has failed
-    wrapped :
-        (eqb (bitAnd (figures t) 17361641481390059760) 0 && eqb (bitAnd ((figures t + 434041036927796742) % 18446744073709551616) 17361641481390059760) 0)
-        ≡ (eqb (bitAnd (figures t) 17361641481390059760) 0 && eqb (bitAnd (figures t + 434041036927796742) 17361641481390059760) 0)
+    wrapped : are-clear (figures t) ((figures t + six-more) % 18446744073709551616) ≡ are-clear (figures t) (figures t + six-more)
     wrapped =
-        by-test (eqb (bitAnd (figures t) 17361641481390059760) 0)
+        by-test (is-clear (figures t))
         (λ e.
-        let fits : (figures t + 434041036927796742) % 18446744073709551616 ≡ figures t + 434041036927796742 = omega (arith, six-more-fits e) in
-        ap (λ (n : ℕ). eqb (bitAnd (figures t) 17361641481390059760) 0 && eqb (bitAnd n 17361641481390059760) 0) fits)
+        let fits : (figures t + six-more) % 18446744073709551616 ≡ figures t + six-more = omega (arith, six-more-fits e) in
+        ap (are-clear (figures t)) fits)
         (λ e. simp e)
 
-    abbrev pub word-says : Bool
-    word-says = eqb (bitAnd (figures t) 17361641481390059760) 0 && eqb (bitAnd ((figures t + 434041036927796742) % 18446744073709551616) 17361641481390059760) 0
-
-    pub by-words : (word-says && (isDigit (at t 0) && isDigit (at t 1))) ≡ isAngle latitude t
+    by-words : (are-clear (figures t) ((figures t + six-more) % 18446744073709551616) && (isDigit (at t 0) && isDigit (at t 1))) ≡ isAngle latitude t
     by-words = rw wrapped (rw (left-is all-small) (ap (λ (x : Bool). x && (isDigit (at t 0) && isDigit (at t 1))) (of-kinds (octet t) all-small) ∙ is-angle-is))
 
-    pub no-angle : word-says ≡ false → false ≡ isAngle latitude t
-    no-angle e = ap (λ (x : Bool). x && (isDigit (at t 0) && isDigit (at t 1))) (sym e) ∙ by-words
-
-    pub an-angle : word-says ≡ true → (isDigit (at t 0) && isDigit (at t 1)) ≡ isAngle latitude t
-    an-angle e = ap (λ (x : Bool). x && (isDigit (at t 0) && isDigit (at t 1))) (sym e) ∙ by-words
+    pub tested : {b : Bool} → are-clear (figures t) ((figures t + six-more) % 18446744073709551616) ≡ b → (b && (isDigit (at t 0) && isDigit (at t 1))) ≡ isAngle latitude t
+    tested e = ap (λ (x : Bool). x && (isDigit (at t 0) && isDigit (at t 1))) (sym e) ∙ by-words
 
     figures-say : isAngle latitude t ≡ true → figures t ≡ word figure-of (octet t)
     figures-say a = left-is all-small ∙ all-say (octet t) all-small (both (every is (octet t)) (isDigit (at t 0) && isDigit (at t 1)) (is-angle-is ∙ a) .0)
