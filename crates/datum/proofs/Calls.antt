@@ -65,10 +65,10 @@ pub told : (height : Bool) {code latitude longitude : ℤ} → SFits w64 code �
     → valuesAnswer r ≡ asked (isOf height) (toZ w64 (ofZ w64 code)) (toZ w64 (ofZ w64 latitude)) (toZ w64 (ofZ w64 longitude)) → r ≡ case → valuesAnswer case ≡ asked (isOf height) code latitude longitude
 told height c b l r e k = found c b l valuesAnswer (λ a. a) (asked (isOf height)) {given = r} e k
 
--- what `located` gave, likewise
-pub placed : (page : Page) {latitude longitude : ℤ} → SFits w64 latitude → SFits w64 longitude → (r : LocalPositionAnswer) {case : LocalPositionAnswer}
-    → localPosition r ≡ located page (toZ w64 (ofZ w64 latitude)) (toZ w64 (ofZ w64 longitude)) → r ≡ case → located page latitude longitude ≡ localPosition case
-placed page b l r e k = sym (λ i. located page (of b .reads i) (of l .reads i)) ∙ sym e ∙ ap localPosition k
+-- what a call that makes a position gave, likewise
+pub positioned : (call : ℤ → ℤ → Answer (ℤ × ℤ)) {latitude longitude : ℤ} → SFits w64 latitude → SFits w64 longitude → (r : LocalPositionAnswer) {case : LocalPositionAnswer}
+    → localPosition r ≡ call (toZ w64 (ofZ w64 latitude)) (toZ w64 (ofZ w64 longitude)) → r ≡ case → call latitude longitude ≡ localPosition case
+positioned call b l r e k = sym (λ i. call (of b .reads i) (of l .reads i)) ∙ sym e ∙ ap localPosition k
 
 -- the test of the family, by the flag of the frame
 pub by-flag : (height flag : Bool) (e : Family Equation) → flag ≡ isGeoid e → Bool·beq flag height ≡ isOf height e

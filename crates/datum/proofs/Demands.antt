@@ -1,4 +1,4 @@
--- What document 01 asks of a point's answer. Stated over specs/ alone. Assumes nothing.
+-- What document 01 asks of a point's answer, and document 02 of its converted position. Stated over specs/ alone. Assumes nothing.
 use mathlib.Core.Path.{_≡_, refl, sym, ap, subst}
 use mathlib.Core.Bool.{Bool, true, false, false≢true}
 use mathlib.Core.List.{List, [], _∷_}
@@ -9,7 +9,7 @@ use lib.IntN.{ℤ, pos, negℤ}
 use Rattle.whole.specs.Round.{roundDiv}
 use Rattle.whole.proofs.Bools.{both}
 use Rattle.kinds.specs.Answer.{Answer, gives, refused, provided, Test}
-use Rattle.kinds.specs.Kinds.{within, isPosition, isFourBytes}
+use Rattle.kinds.specs.Kinds.{within, isPosition, isWgs84Latitude, isFourBytes, converted}
 use Rattle.kinds.specs.declared.Refusal.the-variants as Refusal
 use Rattle.kinds.specs.declared.Height.{Height}
 use Rattle.kinds.specs.declared.HeightAnswer.{HeightAnswer}
@@ -23,7 +23,7 @@ use Rattle.tables.specs.Page.{Page, Equation, Family, shift, geoid, isShift, is
 use Rattle.tables.specs.Rule.{inBox, inArea, worked}
 use Rattle.tables.proofs.Limits.{row-keeps}
 use Rattle.tables.proofs.Bounds.{row-bounded}
-use Rattle.datum.specs.Point.{isCode, row, pageOf, pointOf, tests, asked, answerOf, shiftOf, geoidOf, valuesOf}
+use Rattle.datum.specs.Point.{isCode, row, pageOf, pointOf, tests, asked, answerOf, shiftOf, geoidOf, convertedOf, valuesOf}
 use Rattle.datum.specs.Exact.{exact, atCentre, AllWithin, demanded, boundsOf}
 use Rattle.datum.specs.Cases.{shiftSays, geoidSays, shiftAnswer, geoidAnswer, pointAnswer}
 use Rattle.datum.specs.declared.Shifts.{Shifts}
@@ -33,6 +33,7 @@ use Rattle.datum.specs.declared.PointAnswer.{PointAnswer}
 use Rattle.datum.specs.declared.PointAnswer.the-variants as Point
 use Rattle.datum.proofs.Codes.{not-shift, not-geoid}
 use Rattle.datum.proofs.Points.{fit}
+use Rattle.datum.proofs.Converted as moved
 use Rattle.datum.proofs.Errors.{point-near, no-narrower, all-widened, same-demand, row-demanded, over-power, row-over, centres-apart, no-one-answer}
 
 -- ---- 'Order for a point: 4, 5, 3, 6': when each number is given, whichever family is asked of
@@ -118,6 +119,24 @@ four-bytes family code latitude longitude {values} h =
     let p = answered family code latitude longitude values .0 h in
     subst (λ (v : Family ℤ). each isFourBytes v ≡ true) (p .1 .1)
     (fit (pageOf code) (row-keeps (row code)) latitude longitude (both (isPosition latitude longitude) (inBox (pageOf code) latitude longitude) (p .1 .0 .1) .1))
+
+-- ---- document 02, wish 1: 'The converted position is 100 times the ms plus the shift, in hundred-thousandths of a second'
+-- a point has one exactly where it has a shift, and it is refused exactly as that is
+module _ (code latitude longitude : ℤ) where
+  pub converted-where : (north east : ℤ) → (convertedOf code latitude longitude ≡ gives (north, east))
+      ↔ ((dLat : ℤ) × ((dLon : ℤ) × ((dH : ℤ) × ((shiftOf code latitude longitude ≡ gives (shift dLat dLon dH)) × ((converted latitude dLat ≡ north) × (converted longitude dLon ≡ east))))))
+  converted-where north east = (
+    (λ h. moved.from-shift code latitude longitude h),
+    (λ h. moved.of-shift code latitude longitude h),
+  )
+
+  pub converted-refused : (n : ℕ) → (convertedOf code latitude longitude ≡ refused n) ↔ (shiftOf code latitude longitude ≡ refused n)
+  converted-refused n = moved.as-refused code latitude longitude n
+
+  -- it lies between the poles, and between 6° west of Greenwich and 306° east
+  pub converted-between : (north east : ℤ) → convertedOf code latitude longitude ≡ gives (north, east)
+      → (isWgs84Latitude north ≡ true) × (within (negℤ (pos 2147483648)) (pos 110147483647) east ≡ true)
+  converted-between north east h = moved.settled code latitude longitude h
 
 -- ---- demand 3: how near the answer is to the exact value of the printed polynomial
 -- the exact value is a fraction: dLat of code 1 at document 000's test point, times this bottom, is this top

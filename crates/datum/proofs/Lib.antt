@@ -5,6 +5,8 @@ pub mod Codes
 pub mod Points
 -- what a call says of a code, by the page that the code has
 pub mod Calls
+-- a point's converted position: which points have one, and between which numbers it lies
+pub mod Converted
 -- how near a point's answer is to the exact value: the test of each page, and what it shows
 pub mod Errors
 -- what document 01 asks of a point's answer

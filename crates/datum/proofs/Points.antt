@@ -1,12 +1,12 @@
--- A point's answer by its page: what the tests say of it, and what three numbers say. Assumes nothing.
-use mathlib.Core.Path.{_≡_, refl, ap, _∙_, subst}
+-- A point's answer by its page: what the tests say of it, what three numbers say, and where a shift leads. Assumes nothing.
+use mathlib.Core.Path.{_≡_, refl, sym, ap, _∙_, subst}
 use mathlib.Core.Bool.{Bool, true, false, cond, _&&_, false≢true}
 use Prim.Native.Nat.{ℕ}
 use lib.Dec.{T}
 use lib.IntN.{ℤ}
 use Rattle.whole.proofs.Bools.{both, joined}
-use Rattle.kinds.specs.Answer.{Answer, gives, refused, provided, AllHold}
-use Rattle.kinds.specs.Kinds.{isPosition, isFourBytes}
+use Rattle.kinds.specs.Answer.{Answer, gives, refused, provided, AllHold, following}
+use Rattle.kinds.specs.Kinds.{isPosition, isFourBytes, converted}
 use Rattle.kinds.proofs.Answers as Answers
 use Rattle.kinds.proofs.Answers.{same-value, all-held, first-failed, fails}
 use Rattle.kinds.proofs.Tested.{in-four-bytes}
@@ -15,8 +15,8 @@ use Rattle.tables.specs.Rule.{inBox, longitudeOn, along, worked}
 use Rattle.tables.specs.Inside.{valuesSay, Say, equationAt, evaluatedAt, Fits, AllFit}
 use Rattle.tables.specs.declared.Values.{Values}
 use Rattle.tables.proofs.Limits.{page-keeps, all-fit}
-use Rattle.datum.specs.Point.{pointTests, pointOf}
-use Rattle.datum.specs.Inside.{located}
+use Rattle.datum.specs.Point.{pageOf, pointTests, pointOf, tests, shiftOf, convertedBy, convertedOf}
+use Rattle.datum.specs.Inside.{located, ranged, shiftedBy}
 
 -- ---- by the tests, in the order of the code
 module _ (page : Page) (latitude longitude : ℤ) where
@@ -83,3 +83,25 @@ of-family equations u v = go equations
 
 pub fit : (page : Page) → T (page-keeps page) → (latitude longitude : ℤ) → inBox page latitude longitude ≡ true → each isFourBytes (worked page latitude longitude) ≡ true
 fit page h latitude longitude inside = of-family (page .equations) (along (page .u) latitude) (along (page .v) (longitudeOn page longitude)) (all-fit page h latitude longitude inside)
+
+-- ---- where the shifts of a point lead: p and q are its numbers as a position, x and y what its shifts make of them
+pub shifted-to : (latitude longitude dLat dLon : ℤ) {p q x y : ℤ} → ranged latitude longitude ≡ gives (p, q)
+    → x ≡ converted p dLat → y ≡ converted q dLon → gives (x, y) ≡ shiftedBy dLat dLon latitude longitude
+shifted-to latitude longitude dLat dLon {p} {q} e is-x is-y =
+    let t = Answers.passed (isPosition latitude longitude) 3 (gives (latitude, longitude)) e in
+    let same : _≡_ {A = ℤ × ℤ} (p, q) (latitude, longitude) = sym (same-value (t .1)) in
+    (λ i. gives (is-x i, is-y i))
+    ∙ ap (λ (r : ℤ × ℤ). gives (converted (r .0) dLat, converted (r .1) dLon)) same
+    ∙ (λ i. provided (sym (t .0) i) 3 (gives (converted latitude dLat, converted longitude dLon)))
+
+pub shifted-nowhere : (latitude longitude dLat dLon : ℤ) {n : ℕ} → ranged latitude longitude ≡ refused n → refused 3 ≡ shiftedBy dLat dLon latitude longitude
+shifted-nowhere latitude longitude dLat dLon e =
+    λ i. provided (sym (Answers.failed (isPosition latitude longitude) 3 (latitude, longitude) e .0) i) 3 (gives (converted latitude dLat, converted longitude dLon))
+
+-- that is the converted position, where the point has a shift
+pub converts : (code latitude longitude : ℤ) {dLat dLon dH : ℤ} → gives (shift dLat dLon dH) ≡ shiftOf code latitude longitude
+    → shiftedBy dLat dLon latitude longitude ≡ convertedOf code latitude longitude
+converts code latitude longitude {dLat} {dLon} e =
+    let in-range = all-held (tests isShift code latitude longitude) (gives (worked (pageOf code) latitude longitude)) (sym e) .0 .1 .1 .0 in
+    (λ i. provided (in-range i) 3 (gives (converted latitude dLat, converted longitude dLon)))
+    ∙ ap (λ (a : Answer (Family ℤ)). following a (convertedBy latitude longitude)) e

@@ -4,8 +4,8 @@ use mathlib.Core.List.{List, [], _∷_}
 use Prim.Native.Nat.{ℕ, _-_}
 use lib.IntN.{ℤ, pos, natAbs}
 use lib.ListN.{getD}
-use Rattle.kinds.specs.Answer.{Answer, gives, refused, Test, _else_, inOrder}
-use Rattle.kinds.specs.Kinds.{within, isPosition}
+use Rattle.kinds.specs.Answer.{Answer, gives, refused, Test, _else_, inOrder, following}
+use Rattle.kinds.specs.Kinds.{within, isPosition, converted}
 use Rattle.tables.specs.Page.{Page, Equation, Family, shift, geoid, isShift, isGeoid, isEither}
 use Rattle.tables.specs.Cyprus.{cyprus}
 use Rattle.tables.specs.Rule.{inArea, worked}
@@ -53,6 +53,14 @@ geoidOf code latitude longitude = asked isGeoid code latitude longitude
 -- both families are taken
 abbrev pub answerOf : ℤ → ℤ → ℤ → Answer (Family ℤ)
 answerOf code latitude longitude = asked isEither code latitude longitude
+
+-- ---- document 02, wish 1: 'The converted position is 100 times the ms plus the shift'; refused as the shift is
+abbrev pub convertedBy : ℤ → ℤ → Family ℤ → Answer (ℤ × ℤ)
+convertedBy latitude longitude (shift dLat dLon dH) = gives (converted latitude dLat, converted longitude dLon)
+convertedBy latitude longitude (geoid n) = refused 5
+
+abbrev pub convertedOf : ℤ → ℤ → ℤ → Answer (ℤ × ℤ)
+convertedOf code latitude longitude = following (shiftOf code latitude longitude) (convertedBy latitude longitude)
 
 -- ---- an answer as three values: dLat, dLon and dH, or N; `none` stands where there is no value
 abbrev pub firstOf : {A : Type 0} → A → Answer (Family A) → A

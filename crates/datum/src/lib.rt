@@ -5,17 +5,17 @@ use kinds::HeightAnswer;
 use kinds::LocalPosition;
 use kinds::LocalPositionAnswer;
 use kinds::Refusal;
-use kinds::within;
+use kinds::Wgs84PositionAnswer;
 use tables::Datum;
 use tables::Values;
 ghost use mathlib.Core.Path.{_≡_};
 ghost use Rattle.kinds.specs.Answer.{gives, provided};
-ghost use Rattle.kinds.specs.Cases.{localPosition};
+ghost use Rattle.kinds.specs.Cases.{localPosition, wgs84Position};
 ghost use Rattle.tables.specs.Page.{shift};
 ghost use Rattle.tables.specs.Inside.{datumPage};
-ghost use Rattle.datum.specs.Point.{isCode, pageOf, asked, answerOf, shiftOf, geoidOf};
+ghost use Rattle.datum.specs.Point.{isCode, pageOf, asked, answerOf, shiftOf, geoidOf, convertedOf};
 ghost use Rattle.datum.specs.Cases.{shiftSays, shiftAnswer, geoidAnswer, pointAnswer};
-ghost use Rattle.datum.specs.Inside.{datumAnswer, located, valuesAnswer, isOf};
+ghost use Rattle.datum.specs.Inside.{datumAnswer, located, shiftedBy, valuesAnswer, isOf};
 
 // The shifts of a point from its local datum to WGS 84.
 pub struct Shifts {
@@ -72,6 +72,17 @@ pub fn geoid(code: i64, latitude: i64, longitude: i64) -> HeightAnswer
     }
 }
 
+// The WGS 84 position of a point of codes 1 to 4, by its shift, and refused as that is.
+// wgs84(1, 126_000_000, 118_800_000), the centre of code 1, gives 125,996.15712" and 118,798.89706".
+pub fn wgs84(code: i64, latitude: i64, longitude: i64) -> Wgs84PositionAnswer
+    ensures { λ r. ⌜ wgs84Position r ≡ convertedOf code latitude longitude ⌝ }
+{
+    match shift(code, latitude, longitude) {
+        ShiftAnswer::Gives(shifts) => shifted(latitude, longitude, shifts),
+        ShiftAnswer::Refused(why) => Wgs84PositionAnswer::Refused(why),
+    }
+}
+
 // What the point's datum has, its shift or its geoid height: refused, in this order, with 4, 3, 6 as above, and never with 5.
 pub fn answer(code: i64, latitude: i64, longitude: i64) -> PointAnswer
     ensures { λ r. ⌜ pointAnswer r ≡ answerOf code latitude longitude ⌝ }
@@ -92,6 +103,16 @@ pub fn answer(code: i64, latitude: i64, longitude: i64) -> PointAnswer
     }
 }
 
+// Where shifts lead from a position; refused with 3 out of range.
+fn shifted(latitude: i64, longitude: i64, shifts: Shifts) -> Wgs84PositionAnswer
+    ensures { λ r. ⌜ wgs84Position r ≡ shiftedBy (shifts .latitude .0) (shifts .longitude .0) latitude longitude ⌝ }
+{
+    let LocalPositionAnswer::Gives(position) = LocalPosition::new(latitude, longitude) else {
+        return Wgs84PositionAnswer::Refused(Refusal::Range);
+    };
+    Wgs84PositionAnswer::Gives(position.shifted(shifts.latitude, shifts.longitude))
+}
+
 // What the datum of a code gives for a point, where it has what is asked for: a geoid height, or a shift.
 fn asked(geoid: bool, code: i64, latitude: i64, longitude: i64) -> ValuesAnswer
     ensures { λ r. ⌜ valuesAnswer r ≡ asked (isOf geoid) code latitude longitude ⌝ }
@@ -110,31 +131,24 @@ fn asked(geoid: bool, code: i64, latitude: i64, longitude: i64) -> ValuesAnswer
     }
 }
 
-// In the order of the codes.
-const DATUMS: [Datum; 6] = [
-    Datum::Cyprus,
-    Datum::Minna,
-    Datum::Alaska,
-    Datum::Qatar,
-    Datum::Kandawala,
-    Datum::Nahrwan,
-];
-
 enum DatumAnswer {
     Gives(Datum),
     Unknown,
 }
 
-// The one place where a code is tested.
+// The one place where a code is tested. By a match, so that no table is laid on the stack, and a call that is refused saves no
+// registers.
 fn coded(code: i64) -> DatumAnswer
     ensures { λ r. ⌜ datumAnswer r ≡ provided (isCode code) 4 (gives (pageOf code)) ⌝ }
 {
-    if within(1, 6, code) {
-        let row = (code - 1) as usize;
-        let datum = DATUMS[row];
-        DatumAnswer::Gives(datum)
-    } else {
-        DatumAnswer::Unknown
+    match code {
+        1 => DatumAnswer::Gives(Datum::Cyprus),
+        2 => DatumAnswer::Gives(Datum::Minna),
+        3 => DatumAnswer::Gives(Datum::Alaska),
+        4 => DatumAnswer::Gives(Datum::Qatar),
+        5 => DatumAnswer::Gives(Datum::Kandawala),
+        6 => DatumAnswer::Gives(Datum::Nahrwan),
+        _ => DatumAnswer::Unknown,
     }
 }
 

@@ -6,10 +6,11 @@ use mathlib.Core.Logic.{⊎-elim}
 use Prim.Native.Nat.{ℕ, zero, suc, _%_, _^_, _<_, _≤_}
 use native.Mathlib.Nat.{pow-le-pow-right, div-eq-of-lt, eq-or-lt-of-le}
 use native.Mathlib.Omega.{arith}
-use lib.Dec.{eqb}
+use lib.Dec.{eqb, ltb}
 use lib.IntN.{ℤ, pos, negsuc, natAbs}
 use lib.ListN.{length, getD}
 use borrow.Author.Tests.{eqb-true, eqb-false}
+use Rattle.whole.specs.Every.{every}
 use Rattle.whole.specs.Places.{fromPlaces, inPlaces}
 use Rattle.whole.specs.Digits.{isDigit, digitOf, byteOf, allDigits, fromDigits, digits}
 use Rattle.whole.proofs.Bools.{by-test}
@@ -17,8 +18,9 @@ use Rattle.whole.proofs.Words.{sized}
 use Rattle.whole.proofs.Digits.{all-digits, number-of, number-below, digits-of}
 use Rattle.kinds.specs.Kinds.{isFourBytes}
 use Rattle.kinds.proofs.Tested.{of-four-bytes}
-use Rattle.decimal.specs.Decimal.{unpadded, decimal, printedNumber}
+use Rattle.decimal.specs.Decimal.{unpadded, decimal, minusFirst, printedNumber}
 use Rattle.decimal.proofs.Numbers.{zero-goes, first-stays, unpadded-every, digits-long}
+use Rattle.decimal.proofs.Told.{decimal-over}
 
 -- ---- without leading zeros it says the same
 zero-says : (l : List ℕ) → fromDigits (48 ∷ l) ≡ fromDigits l
@@ -34,9 +36,13 @@ unpadded-says (b ∷ next ∷ rest) =
     (λ t. simp t (unpadded-says (next ∷ rest) ∙ sym (zero-says (next ∷ rest)) ∙ ap (λ (x : ℕ). fromDigits (x ∷ next ∷ rest)) (sym (eqb-true b 48 t))))
     (λ t. simp t refl)
 
-pub digits-say : (n : ℕ) → n < 10 ^ 10 → (allDigits (decimal n) ≡ true) × (fromDigits (decimal n) ≡ n)
+pub all-decimal : (n : ℕ) → allDigits (decimal n) ≡ true
 unfolding decimal allDigits
-digits-say n h = (unpadded-every isDigit (digits 10 n) (all-digits 10 n), unpadded-says (digits 10 n) ∙ number-of 10 n h)
+all-decimal n = unpadded-every isDigit (digits 10 n) (all-digits 10 n)
+
+pub digits-say : (n : ℕ) → n < 10 ^ 10 → (allDigits (decimal n) ≡ true) × (fromDigits (decimal n) ≡ n)
+unfolding decimal
+digits-say n h = (all-decimal n, unpadded-says (digits 10 n) ∙ number-of 10 n h)
 
 -- ---- and it has none
 no-zero : (l : List ℕ) → 0 < length l → (0 < length (unpadded l)) × (getD (unpadded l) 0 0 ≡ 48 → length (unpadded l) ≡ 1)
@@ -53,19 +59,19 @@ unfolding decimal
 no-leading-zero n = no-zero (digits 10 n) (omega (arith, digits-long 10 n))
 
 -- ---- no other text does
-stays : (t : List ℕ) → (getD t 0 0 ≡ 48 → length t ≡ 1) → unpadded t ≡ t
+pub stays : (t : List ℕ) → (getD t 0 0 ≡ 48 → length t ≡ 1) → unpadded t ≡ t
 unfolding unpadded
 stays [] h = refl
 stays (b ∷ []) h = refl
 stays (b ∷ next ∷ rest) h = first-stays b (next ∷ rest) (λ e. omega (arith, h e))
 
 -- one more digit than a number needs is a zero
-one-more : (w n : ℕ) → n < 10 ^ w → digits (suc w) n ≡ 48 ∷ digits w n
+pub one-more : (w n : ℕ) → n < 10 ^ w → digits (suc w) n ≡ 48 ∷ digits w n
 unfolding digits inPlaces
 one-more w n h = ap (λ (q : ℕ). byteOf (q % 10) ∷ digits w n) (div-eq-of-lt h)
 
 -- so it makes no difference in how many it was written
-any-width : (v w n : ℕ) → 0 < w → w ≤ v → n < 10 ^ w → unpadded (digits v n) ≡ unpadded (digits w n)
+pub any-width : (v w n : ℕ) → 0 < w → w ≤ v → n < 10 ^ w → unpadded (digits v n) ≡ unpadded (digits w n)
 any-width zero w n some more h = absurd (omega arith)
 any-width (suc v) w n some more h =
     ⊎-elim
@@ -89,16 +95,19 @@ few-digits x h = omega (arith, sized x (of-four-bytes x h))
 same-digits : (n m : ℕ) → n < 10 ^ 10 → m < 10 ^ 10 → decimal n ≡ decimal m → n ≡ m
 same-digits n m h k e = sym (digits-say n h .1) ∙ ap fromDigits e ∙ digits-say m k .1
 
--- a minus sign is no digit
-no-sign : (n : ℕ) (d : List ℕ) → n < 10 ^ 10 → decimal n ≡ 45 ∷ d → ⊥
-unfolding allDigits
-no-sign n d h e = false≢true (sym (ap allDigits e) ∙ digits-say n h .0)
+-- of sizes whose texts are alike only where they are one, and have no minus sign: such are the numbers too
+module _ (text : ℕ → List ℕ) (limit : ℕ) (same : (n m : ℕ) → n < limit → m < limit → text n ≡ text m → n ≡ m) (no-minus : (n : ℕ) → every (ltb 45) (text n) ≡ true) where
+  no-sign : (n : ℕ) (d : List ℕ) → text n ≡ 45 ∷ d → ⊥
+  no-sign n d e = false≢true (sym (ap (every (ltb 45)) e) ∙ no-minus n)
+
+  pub signed-apart : (x y : ℤ) → natAbs x < limit → natAbs y < limit → minusFirst text x ≡ minusFirst text y → x ≡ y
+  signed-apart (pos n) (pos m) f g e = ap pos (same n m f g e)
+  signed-apart (pos n) (negsuc m) f g e = absurd (no-sign n (text (suc m)) e)
+  signed-apart (negsuc n) (pos m) f g e = absurd (no-sign m (text (suc n)) (sym e))
+  signed-apart (negsuc n) (negsuc m) f g e =
+      let one : suc n ≡ suc m = same (suc n) (suc m) f g cc in
+      ap negsuc (omega (arith, one))
 
 pub printed-apart : (x y : ℤ) → isFourBytes x ≡ true → isFourBytes y ≡ true → printedNumber x ≡ printedNumber y → x ≡ y
 unfolding printedNumber
-printed-apart (pos n) (pos m) f g e = ap pos (same-digits n m (few-digits (pos n) f) (few-digits (pos m) g) e)
-printed-apart (pos n) (negsuc m) f g e = absurd (no-sign n (decimal (suc m)) (few-digits (pos n) f) e)
-printed-apart (negsuc n) (pos m) f g e = absurd (no-sign m (decimal (suc n)) (few-digits (pos m) g) (sym e))
-printed-apart (negsuc n) (negsuc m) f g e =
-    let same : suc n ≡ suc m = same-digits (suc n) (suc m) (few-digits (negsuc n) f) (few-digits (negsuc m) g) cc in
-    ap negsuc (omega (arith, same))
+printed-apart x y f g e = signed-apart decimal (10 ^ 10) same-digits (decimal-over 45 (omega arith)) x y (few-digits x f) (few-digits y g) e

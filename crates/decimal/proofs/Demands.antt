@@ -1,15 +1,19 @@
--- What document 01 asks of a number that is printed. Stated over specs/ alone. Assumes nothing.
+-- What documents 01 and 02 ask of a number that is printed. Stated over specs/ alone. Assumes nothing.
 use mathlib.Core.Path.{_≡_, refl}
 use mathlib.Core.Bool.{true}
-use mathlib.Core.List.{List, [], _∷_}
-use Prim.Native.Nat.{ℕ, suc, _<_, _≤_, _^_}
-use lib.IntN.{ℤ, pos, negℤ}
+use mathlib.Core.List.{List, [], _∷_, _++_}
+use Prim.Native.Nat.{ℕ, suc, _+_, _*_, _/_, _%_, _<_, _≤_, _^_}
+use lib.IntN.{ℤ, pos, negℤ, natAbs}
 use lib.ListN.{length, getD}
 use Rattle.whole.specs.Places.{inPlaces}
 use Rattle.whole.specs.Digits.{allDigits, fromDigits, digits}
+use Rattle.whole.proofs.Digits.{all-digits}
+use Rattle.kinds.specs.Bytes.{ascii}
 use Rattle.kinds.specs.Kinds.{isFourBytes}
-use Rattle.decimal.specs.Decimal.{unpadded, decimal, printedNumber}
+use Rattle.decimal.specs.Decimal.{unpadded, decimal, printedNumber, billion, billionths, ninePlaces}
+use Rattle.decimal.proofs.Numbers.{digits-long}
 use Rattle.decimal.proofs.Apart as apart
+use Rattle.decimal.proofs.Nine as nine
 
 -- ---- 'A minus sign stands first and the digits follow it .., without leading zeros; zero is `0`'
 -- of a number below zero the digits are those of its size
@@ -45,3 +49,41 @@ pub record Printed : Type 0 where
 pub printed : Printed
 unfolding printedNumber decimal unpadded digits inPlaces
 printed = record { nothing = refl; seven = refl; less-seven = refl; ten = refl; largest = refl; least = refl }
+
+-- ---- document 02, wish 1: a number of billionths with 'nine places, unpadded in front'
+-- of a number below zero the minus sign stands first, and the text is that of its size: -0.5 keeps it, though its degrees are 0
+pub nine-sign-first : (n : ℕ) → (ninePlaces (pos n) ≡ billionths n) × (ninePlaces (negℤ (pos (suc n))) ≡ 45 ∷ billionths (suc n))
+unfolding ninePlaces
+nine-sign-first n = (refl, refl)
+
+-- the text is digits, a point and nine digits, and they say the number. That the first ones are not padded is `no-leading-zero`.
+pub record NineSay (n : ℕ) : Type 0 where
+  pub parts : billionths n ≡ decimal (n / billion) ++ ascii "." ++ digits 9 (n % billion)
+  pub before : allDigits (decimal (n / billion)) ≡ true
+  pub after : allDigits (digits 9 (n % billion)) ≡ true
+  pub nine : length (digits 9 (n % billion)) ≡ 9
+  pub say : fromDigits (decimal (n / billion)) * billion + fromDigits (digits 9 (n % billion)) ≡ n
+
+pub nine-say : (n : ℕ) → n < 1000000000000 → NineSay n
+unfolding billionths
+nine-say n h = record { parts = refl; before = apart.all-decimal (n / billion); after = all-digits 9 (n % billion); nine = digits-long 9 (n % billion); say = nine.places-say n h }
+
+-- so two numbers below 1,000 degrees that are written alike are the same
+pub nine-apart : (x y : ℤ) → natAbs x < 1000000000000 → natAbs y < 1000000000000 → ninePlaces x ≡ ninePlaces y → x ≡ y
+nine-apart x y f g h = nine.nine-apart x y f g h
+
+-- numbers as they are written
+pub record NinePlaces : Type 0 where
+  pub nothing : ninePlaces (pos 0) ≡ ascii "0.000000000"
+  pub least-place : ninePlaces (pos 1) ≡ ascii "0.000000001"
+  pub half : ninePlaces (pos 500000000) ≡ ascii "0.500000000"
+  pub less-half : ninePlaces (negℤ (pos 500000000)) ≡ ascii "-0.500000000"
+  pub less-least-place : ninePlaces (negℤ (pos 1)) ≡ ascii "-0.000000001"
+  pub two-in-front : ninePlaces (pos 34998932533) ≡ ascii "34.998932533"
+  pub three-in-front : ninePlaces (pos 179999999997) ≡ ascii "179.999999997"
+  pub least-longitude : ninePlaces (negℤ (pos 180000000000)) ≡ ascii "-180.000000000"
+  pub hundred : ninePlaces (pos 100000000000) ≡ ascii "100.000000000"
+
+pub nine-places : NinePlaces
+unfolding ninePlaces billionths decimal unpadded digits inPlaces
+nine-places = record { nothing = refl; least-place = refl; half = refl; less-half = refl; less-least-place = refl; two-in-front = refl; three-in-front = refl; least-longitude = refl; hundred = refl }

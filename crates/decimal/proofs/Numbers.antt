@@ -1,8 +1,8 @@
 -- A number as it is printed. Assumes nothing.
 use mathlib.Core.Path.{_≡_, refl, sym, ap, _∙_}
 use mathlib.Core.Bool.{Bool, true, false}
-use mathlib.Core.List.{List, [], _∷_, _++_}
-use Prim.Native.Nat.{ℕ, suc, _+_, _-_, _<_, _≤_}
+use mathlib.Core.List.{List, [], _∷_, _++_, append-assoc}
+use Prim.Native.Nat.{ℕ, suc, _+_, _-_, _/_, _%_, _<_, _≤_}
 use native.Mathlib.Numerals.{add-one}
 use native.Mathlib.Omega.{arith}
 use lib.Dec.{eqb}
@@ -12,16 +12,16 @@ use lib.Seq.{drop-cons, take-all, take-length}
 use lib.Signed.{ltZ}
 use borrow.Author.Tests.{ltb-true, ne-eqb}
 use borrow.Rule.Slice.PartMut.{putMid}
-use mir.Syntax.{w32, w64}
+use mir.Syntax.{Width, w32}
 use mir.Val.{Fits, SFits, toZ, ofZ}
 use Rattle.whole.specs.Every.{every}
 use Rattle.whole.specs.Places.{inPlaces}
 use Rattle.whole.specs.Digits.{byteOf, digits}
 use Rattle.whole.proofs.Bools.{both, by-test}
 use Rattle.whole.proofs.Places.{in-places-long}
-use Rattle.whole.proofs.Words.{of, zero-is, tested, widened, sized}
+use Rattle.whole.proofs.Words.{Holds, of, zero-is, tested, sized}
 use Rattle.kinds.proofs.Writing.{byte-after, lent-part, grown}
-use Rattle.decimal.specs.Decimal.{minus, unpadded, decimal, printedNumber}
+use Rattle.decimal.specs.Decimal.{minus, unpadded, decimal, minusFirst, printedNumber, billion, billionths}
 
 -- ---- leading zeros
 -- before a digit, a zero goes
@@ -58,7 +58,7 @@ module _ (d : List ℕ) (i : ℕ) where
   last-found h = last-stays (drop i d) (omega (arith, h, length-drop i d))
 
 -- ---- the digits of a number
-unpadded-short : (l : List ℕ) → length (unpadded l) ≤ length l
+pub unpadded-short : (l : List ℕ) → length (unpadded l) ≤ length l
 unfolding unpadded
 unpadded-short [] = omega arith
 unpadded-short (b ∷ []) = omega arith
@@ -80,6 +80,11 @@ pub decimal-short : (n : ℕ) → length (decimal n) ≤ 10
 unfolding decimal
 decimal-short n = omega (arith, unpadded-short (digits 10 n), digits-long 10 n)
 
+-- of a number of billionths: those before the point, and the point and nine places
+pub at-point : (n : ℕ) → billionths n ≡ decimal (n / billion) ++ (46 ∷ digits 9 (n % billion))
+unfolding billionths
+at-point n = append-assoc (decimal (n / billion)) (46 ∷ []) (digits 9 (n % billion))
+
 -- what stands from the first digit on is written: r says how many, and new is the line afterwards
 pub digits-written : (n f r : ℕ) (ten line new : List ℕ) → ten ≡ digits 10 n → drop f ten ≡ unpadded ten
     → r ≡ length (take (10 - f) (drop f ten)) → new ≡ take (length (take (10 - f) (drop f ten))) (take (10 - f) (drop f ten)) ++ drop (length (take (10 - f) (drop f ten))) line
@@ -91,54 +96,51 @@ digits-written n f r ten line new is-ten from-first is-r is-new =
     (long, is-new ∙ (λ i. (take-length (take (10 - f) (drop f ten)) ∙ src) i ++ drop ((sym is-r) i) line))
 
 -- ---- and its sign
-below-zero : (z : ℤ) → ltZ z (pos 0) ≡ true → minus ∷ decimal (natAbs z) ≡ printedNumber z
-unfolding printedNumber
-below-zero (pos n) h = absurd (omega (arith, ltb-true n 0 h))
-below-zero (negsuc n) h = refl
-
-from-zero : (z : ℤ) → ltZ z (pos 0) ≡ false → decimal (natAbs z) ≡ printedNumber z
-unfolding printedNumber
-from-zero (pos n) h = refl
-from-zero (negsuc n) h = absurd (let z : _≡_ {A = ℕ} 0 1 = cc in omega arith)
-
 pub printed-short : (z : ℤ) → length (printedNumber z) ≤ 11
 unfolding printedNumber
 printed-short (pos n) = omega (arith, decimal-short n)
 printed-short (negsuc n) = omega (arith, decimal-short (suc n))
 
 -- z as the code holds it, and m its size
-module _ {z : ℤ} (fits : SFits w32 z) {m : ℕ} (is-m : m ≡ natAbs (toZ w64 (ofZ w64 (toZ w32 (ofZ w32 z))))) where
-  size-is : m ≡ natAbs z
-  size-is = is-m ∙ ap natAbs (widened fits .reads)
+pub size-is : {w : Width} {a m : ℕ} {z : ℤ} → Holds w a z → m ≡ natAbs (toZ w a) → m ≡ natAbs z
+size-is h is-m = is-m ∙ ap natAbs (h .reads)
 
-  pub size-fits : Fits w32 m
-  size-fits = record { fits = omega (arith, size-is, sized z fits) }
+pub size-fits : {z : ℤ} → SFits w32 z → {m : ℕ} → m ≡ natAbs z → Fits w32 m
+size-fits {z} fits is-m = record { fits = omega (arith, is-m, sized z fits) }
 
-  -- d is the line as it came, r how many digits were written, and new what was lent for them, afterwards
-  module _ (d new : List ℕ) {r : ℕ} (is-r : r ≡ length (decimal m)) where
-    pub no-sign : ltZ (toZ w32 (ofZ w32 z)) (pos 0) ≡ false → new ≡ decimal m ++ drop r d → (r ≡ length (printedNumber z)) × (new ≡ printedNumber z ++ drop r d)
+-- the sign is written to the line d, in which k bytes more have room: they are lent
+module _ (d : List ℕ) (k : ℕ) (room : k < length d) where
+  signed-line : set d 0 minus ≡ (minus ∷ []) ++ drop 1 d
+  signed-line = byte-after [] d minus 0 refl (omega (arith, room))
+
+  pub after-sign : k ≤ length (take (length (set d 0 minus) - 1) (drop 1 (set d 0 minus)))
+  after-sign = rw (signed-line, lent-part (minus ∷ []) d 1 refl) (omega (arith, room, length-drop 1 d))
+
+-- whatever the text of a size is
+module _ (text : ℕ → List ℕ) where
+  below-zero : (z : ℤ) → ltZ z (pos 0) ≡ true → minus ∷ text (natAbs z) ≡ minusFirst text z
+  below-zero (pos n) h = absurd (omega (arith, ltb-true n 0 h))
+  below-zero (negsuc n) h = refl
+
+  from-zero : (z : ℤ) → ltZ z (pos 0) ≡ false → text (natAbs z) ≡ minusFirst text z
+  from-zero (pos n) h = refl
+  from-zero (negsuc n) h = absurd (let z : _≡_ {A = ℕ} 0 1 = cc in omega arith)
+
+  -- d is the line as it came, r how many bytes the text of the size m has, and new what was lent for them, afterwards
+  module _ {w : Width} {z : ℤ} (fits : SFits w z) {m : ℕ} (is-m : m ≡ natAbs z) (d new : List ℕ) {r : ℕ} (is-r : r ≡ length (text m)) where
+    pub no-sign : ltZ (toZ w (ofZ w z)) (toZ w 0) ≡ false → new ≡ text m ++ drop r d → (r ≡ length (minusFirst text z)) × (new ≡ minusFirst text z ++ drop r d)
     no-sign h is-new =
-        let e : decimal m ≡ printedNumber z = ap decimal size-is ∙ from-zero z (tested ltZ (of fits) zero-is h) in
+        let e : text m ≡ minusFirst text z = ap text is-m ∙ from-zero z (tested ltZ (of fits) zero-is h) in
         (is-r ∙ ap length e, is-new ∙ ap (λ (l : List ℕ). l ++ drop r d) e)
 
-    module _ (room : 11 ≤ length d) where
-      signed-line : set d 0 minus ≡ (minus ∷ []) ++ drop 1 d
-      signed-line = byte-after [] d minus 0 refl (omega (arith, room))
+    module _ (k : ℕ) (room : k < length d) (h : ltZ (toZ w (ofZ w z)) (toZ w 0) ≡ true) (is-new : new ≡ text m ++ drop r (take (length (set d 0 minus) - 1) (drop 1 (set d 0 minus)))) where
+      pub with-sign : (1 + r ≡ length (minusFirst text z)) × (putMid 1 (length (set d 0 minus) - 1) (set d 0 minus) new ≡ minusFirst text z ++ drop (1 + r) d)
+      with-sign =
+          let e : minus ∷ text m ≡ minusFirst text z = ap (λ (n : ℕ). minus ∷ text n) is-m ∙ below-zero z (tested ltZ (of fits) zero-is h) in
+          (omega (arith, is-r, ap length e), rw (is-new, signed-line d k room) (grown (minus ∷ []) d (text m) 1 r refl ∙ ap (λ (l : List ℕ). l ++ drop (1 + r) d) e))
 
-      pub after-sign : 10 ≤ length (take (length (set d 0 minus) - 1) (drop 1 (set d 0 minus)))
-      after-sign = rw (signed-line, lent-part (minus ∷ []) d 1 refl) (omega (arith, room, length-drop 1 d))
-
-      pub with-sign : ltZ (toZ w32 (ofZ w32 z)) (pos 0) ≡ true → new ≡ decimal m ++ drop r (take (length (set d 0 minus) - 1) (drop 1 (set d 0 minus)))
-          → (1 + r ≡ length (printedNumber z)) × (putMid 1 (length (set d 0 minus) - 1) (set d 0 minus) new ≡ printedNumber z ++ drop (1 + r) d)
-      with-sign h is-new =
-          let e : minus ∷ decimal m ≡ printedNumber z = ap (λ (k : ℕ). minus ∷ decimal k) size-is ∙ below-zero z (tested ltZ (of fits) zero-is h) in
-          (omega (arith, is-r, ap length e), rw (is-new, signed-line) (grown (minus ∷ []) d (decimal m) 1 r refl ∙ ap (λ (l : List ℕ). l ++ drop (1 + r) d) e))
-
-      pub same-long : ltZ (toZ w32 (ofZ w32 z)) (pos 0) ≡ true → new ≡ decimal m ++ drop r (take (length (set d 0 minus) - 1) (drop 1 (set d 0 minus)))
-          → length (putMid 1 (length (set d 0 minus) - 1) (set d 0 minus) new) ≡ length d
-      same-long h is-new =
-          let w = with-sign h is-new in
-          ap length (w .1) ∙ omega (arith, length-append (printedNumber z) (drop (1 + r) d), length-drop (1 + r) d, w .0, is-r, decimal-short m, room)
+      pub same-long : length (text m) ≤ k → length (putMid 1 (length (set d 0 minus) - 1) (set d 0 minus) new) ≡ length d
+      same-long short = ap length (with-sign .1) ∙ omega (arith, length-append (minusFirst text z) (drop (1 + r) d), length-drop (1 + r) d, with-sign .0, is-r, short, room)
 
 -- ---- and the byte that follows it
 -- y is z as the code holds it

@@ -148,6 +148,11 @@ following-tests [] a next = refl
 following-tests ((true else n) ∷ tests) a next = following-tests tests a next
 following-tests ((false else n) ∷ tests) a next = refl
 
+-- what follows from what is made of a value follows from the value
+pub followed-on : {A B C : Type 0} (a : Answer A) (made : A → B) (next : B → Answer C) → following (following a (λ v. gives (made v))) next ≡ following a (λ v. next (made v))
+followed-on (gives v) made next = refl
+followed-on (refused n) made next = refl
+
 -- ---- an answer by what is said of it
 -- the refusal that has a number
 abbrev pub refusal : ℕ → Refusal

@@ -12,7 +12,7 @@ use lib.Seq.{take-append-seam, drop-append-seam}
 use borrow.Author.Tests.{leb-true, leb-false, le-leb, lt-leb}
 use Rattle.whole.specs.Round.{roundDiv}
 use Rattle.kinds.specs.Answer.{Answer, gives, refused, Test, inOrder, AllHold, FirstFails, refusalOf, numberOf, placed, lent}
-use Rattle.kinds.specs.Cases.{localLatitude, localLongitude, localPosition, wgs84Latitude, wgs84Longitude, angleShift, height, written}
+use Rattle.kinds.specs.Cases.{localLatitude, localLongitude, localPosition, wgs84Latitude, wgs84Longitude, wgs84Position, angleShift, height, written}
 use Rattle.kinds.specs.Kinds.{converted}
 use Rattle.kinds.specs.declared.Wgs84Latitude.{Wgs84Latitude}
 use Rattle.kinds.specs.declared.Wgs84Longitude.{Wgs84Longitude}
@@ -30,6 +30,8 @@ use Rattle.kinds.specs.declared.Wgs84LatitudeAnswer.{Wgs84LatitudeAnswer
 use Rattle.kinds.specs.declared.Wgs84LatitudeAnswer.the-variants as Latitude84
 use Rattle.kinds.specs.declared.Wgs84LongitudeAnswer.{Wgs84LongitudeAnswer}
 use Rattle.kinds.specs.declared.Wgs84LongitudeAnswer.the-variants as Longitude84
+use Rattle.kinds.specs.declared.Wgs84PositionAnswer.{Wgs84PositionAnswer}
+use Rattle.kinds.specs.declared.Wgs84PositionAnswer.the-variants as Position84
 use Rattle.kinds.specs.declared.AngleShiftAnswer.{AngleShiftAnswer}
 use Rattle.kinds.specs.declared.AngleShiftAnswer.the-variants as AngleShift
 use Rattle.kinds.specs.declared.HeightAnswer.{HeightAnswer}
@@ -174,6 +176,16 @@ wgs84-longitude-determined = determined (λ x. Longitude84.Gives (record { 0 = x
     back : (e : Wgs84LongitudeAnswer) → rebuilt (λ x. Longitude84.Gives (record { 0 = x })) Longitude84.Refused (wgs84Longitude e) ≡ e
     back (Longitude84.Gives x) = refl
     back (Longitude84.Refused r) = ap Longitude84.Refused (number-back r)
+
+pub wgs84-position-determined : (a b : Wgs84PositionAnswer) → wgs84Position a ≡ wgs84Position b → a ≡ b
+wgs84-position-determined = determined yes Position84.Refused wgs84Position back
+  where
+    yes : ℤ × ℤ → Wgs84PositionAnswer
+    yes p = Position84.Gives (record { latitude = record { 0 = p .0 }; longitude = record { 0 = p .1 } })
+
+    back : (e : Wgs84PositionAnswer) → rebuilt yes Position84.Refused (wgs84Position e) ≡ e
+    back (Position84.Gives p) = refl
+    back (Position84.Refused r) = ap Position84.Refused (number-back r)
 
 pub angle-shift-determined : (a b : AngleShiftAnswer) → angleShift a ≡ angleShift b → a ≡ b
 angle-shift-determined = determined (λ x. AngleShift.Gives (record { 0 = x })) AngleShift.Refused angleShift back

@@ -8,7 +8,7 @@ use borrow.Author.Tests.{leb-true, le-leb}
 use Rattle.whole.proofs.Bools.{both, joined}
 use Rattle.kinds.specs.Kinds.{within}
 
-in-turn : (a b c : ℤ) → leZ a b ≡ true → leZ b c ≡ true → leZ a c ≡ true
+pub in-turn : (a b c : ℤ) → leZ a b ≡ true → leZ b c ≡ true → leZ a c ≡ true
 in-turn (pos a) (pos b) (pos c) h k = le-leb a c (omega (arith, leb-true a b h, leb-true b c k))
 in-turn (pos a) (pos b) (negsuc c) h k = absurd (false≢true k)
 in-turn (pos a) (negsuc b) c h k = absurd (false≢true h)

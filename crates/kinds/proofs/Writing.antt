@@ -1,10 +1,10 @@
 -- Bytes put at the start of a lent buffer, and after those that stand there. Assumes nothing.
-use mathlib.Core.Path.{_≡_, refl, sym, ap, _∙_}
+use mathlib.Core.Path.{_≡_, refl, sym, ap, _∙_, subst}
 use mathlib.Core.List.{List, [], _∷_, _++_, append-nil, append-assoc}
 use Prim.Native.Nat.{ℕ, suc, _+_, _-_, _<_, _≤_}
 use native.Mathlib.Numerals.{add-one}
 use native.Mathlib.Omega.{arith}
-use lib.ListN.{length, take, drop, getD, set, length-append, drop-of-length-le}
+use lib.ListN.{length, take, drop, getD, set, length-append, length-drop, drop-of-length-le}
 use lib.Seq.{take-length, take-all, take-at, drop-at, drop-cons, drop-drop, set-at, append-snoc}
 use borrow.Rule.Slice.PartMut.{putMid}
 use borrow.Author.Tests.{le-leb, lt-leb}
@@ -43,3 +43,31 @@ grown p d line b n hp =
     ∙ (λ i. p ++ ((line ++ drop n (lent-part p d b hp i)) ++ none i))
     ∙ ap (λ (l : List ℕ). p ++ l) (append-nil (line ++ drop n (drop b d)) ∙ ap (λ (l : List ℕ). line ++ l) (drop-drop n b d))
     ∙ sym (append-assoc p line (drop (b + n) d))
+
+-- ---- d is the buffer as it came, p what stands at its start already, and e the buffer now
+module _ (p d : List ℕ) {e : List ℕ} {b : ℕ} (is-e : e ≡ p ++ drop b d) (is-b : b ≡ length p) where
+  pub rest-long : length (take (length e - b) (drop b e)) ≡ length d - b
+  rest-long = ap (λ (l : List ℕ). length (take (length l - b) (drop b l))) is-e ∙ ap length (lent-part p d b (sym is-b)) ∙ length-drop b d
+
+  pub still-long : b ≤ length d → length e ≡ length d
+  still-long h = ap length is-e ∙ omega (arith, length-append p (drop b d), length-drop b d, is-b, h)
+
+  pub grown-by : (text new : List ℕ) (n : ℕ) → new ≡ text ++ drop n (take (length e - b) (drop b e)) → putMid b (length e - b) e new ≡ (p ++ text) ++ drop (b + n) d
+  grown-by text new n is-new = rw (is-new, is-e) (grown p d text b n (sym is-b))
+
+-- ---- a text that was put at the start of zeros, in r bytes, is taken from there
+module _ (text zeros new : List ℕ) {r : ℕ} (is-r : r ≡ length text) (is-new : new ≡ text ++ drop r zeros) where
+  pub text-fits : r ≤ length new
+  text-fits = subst (λ (l : List ℕ). r ≤ length l) (sym is-new) (omega (arith, is-r, length-append text (drop r zeros)))
+
+  text-back : take r new ≡ text
+  text-back = ap (take r) is-new ∙ take-at text (drop r zeros) r (sym is-r)
+
+  pub text-counted : r ≡ length (take r new)
+  text-counted = is-r ∙ ap length (sym text-back)
+
+  -- and put into a lent buffer: a is what that answers, and l the buffer afterwards
+  pub text-put : (out : List ℕ) {other : List ℕ} {a : Answer ℕ} {l : List ℕ} → text ≡ other → Written (placed (take r new) (length out)) out a l → Written (placed other (length out)) out a l
+  text-put out e w =
+      let same = text-back ∙ e in
+      (w .0 ∙ ap (λ (t : List ℕ). counted (placed t (length out))) same, w .1 ∙ ap (λ (t : List ℕ). lent (placed t (length out)) out) same)

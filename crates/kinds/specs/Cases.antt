@@ -12,6 +12,8 @@ use Rattle.kinds.specs.declared.Wgs84LatitudeAnswer.{Wgs84LatitudeAnswer
 use Rattle.kinds.specs.declared.Wgs84LatitudeAnswer.the-variants as Wgs84Latitude
 use Rattle.kinds.specs.declared.Wgs84LongitudeAnswer.{Wgs84LongitudeAnswer}
 use Rattle.kinds.specs.declared.Wgs84LongitudeAnswer.the-variants as Wgs84Longitude
+use Rattle.kinds.specs.declared.Wgs84PositionAnswer.{Wgs84PositionAnswer}
+use Rattle.kinds.specs.declared.Wgs84PositionAnswer.the-variants as Wgs84Position
 use Rattle.kinds.specs.declared.AngleShiftAnswer.{AngleShiftAnswer}
 use Rattle.kinds.specs.declared.AngleShiftAnswer.the-variants as AngleShift
 use Rattle.kinds.specs.declared.HeightAnswer.{HeightAnswer}
@@ -38,6 +40,10 @@ wgs84Latitude (Wgs84Latitude.Refused r) = refused (numberOf r)
 abbrev pub wgs84Longitude : Wgs84LongitudeAnswer → Answer ℤ
 wgs84Longitude (Wgs84Longitude.Gives x) = gives (x .0)
 wgs84Longitude (Wgs84Longitude.Refused r) = refused (numberOf r)
+
+abbrev pub wgs84Position : Wgs84PositionAnswer → Answer (ℤ × ℤ)
+wgs84Position (Wgs84Position.Gives p) = gives (p .latitude .0, p .longitude .0)
+wgs84Position (Wgs84Position.Refused r) = refused (numberOf r)
 
 abbrev pub angleShift : AngleShiftAnswer → Answer ℤ
 angleShift (AngleShift.Gives x) = gives (x .0)

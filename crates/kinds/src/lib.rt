@@ -177,6 +177,19 @@ impl LocalPosition {
             longitude: east,
         })
     }
+
+    // Where the shifts of its latitude and of its longitude lead.
+    pub fn shifted(self, north: AngleShift, east: AngleShift) -> Wgs84Position
+        ensures { λ r. ⌜ r .latitude .0 ≡ converted (self .latitude .0) (north .0) ⌝ }
+        ensures { λ r. ⌜ r .longitude .0 ≡ converted (self .longitude .0) (east .0) ⌝ }
+    {
+        let latitude = self.latitude;
+        let longitude = self.longitude;
+        Wgs84Position {
+            latitude: latitude.shifted(north),
+            longitude: longitude.shifted(east),
+        }
+    }
 }
 
 // The shift of an angle from the local datum to WGS 84, in 0.00001".
@@ -326,6 +339,17 @@ impl Wgs84Longitude {
         let Wgs84Longitude(units) = self;
         units
     }
+}
+
+// A position on WGS 84.
+pub struct Wgs84Position {
+    pub latitude: Wgs84Latitude,
+    pub longitude: Wgs84Longitude,
+}
+
+pub enum Wgs84PositionAnswer {
+    Gives(Wgs84Position),
+    Refused(Refusal),
 }
 
 // Whether x is from the least to the largest, both in.

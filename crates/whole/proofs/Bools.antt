@@ -30,6 +30,11 @@ three a b c h =
     let q = and-yes b c (p .1) in
     (p .0, q .0, q .1)
 
+-- a test that was computed holds
+pub computed : (b : Bool) → T b → b ≡ true
+computed true h = refl
+computed false h = absurd h
+
 -- what does not fail, and two tests that say the same
 pub not-not-so : (b : Bool) → not b ≡ false → b ≡ true
 not-not-so true h = refl

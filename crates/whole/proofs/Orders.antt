@@ -9,13 +9,13 @@ use lib.Signed.{leZ, _≤ℤ_, leZ-yes}
 use Rattle.whole.proofs.Ring.{up, down, add-is, neg-is, mul-is}
 
 -- ---- by what lies above zero and what lies below
-by-parts : (x y : ℤ) → T (leZ x y) → up x + down y ≤ up y + down x
+pub by-parts : (x y : ℤ) → T (leZ x y) → up x + down y ≤ up y + down x
 by-parts (pos a) (pos b) t = omega (arith, leb→le a b t)
 by-parts (pos a) (negsuc b) t = absurd t
 by-parts (negsuc a) (pos b) t = omega arith
 by-parts (negsuc a) (negsuc b) t = omega (arith, leb→le b a t)
 
-of-parts : (x y : ℤ) → up x + down y ≤ up y + down x → T (leZ x y)
+pub of-parts : (x y : ℤ) → up x + down y ≤ up y + down x → T (leZ x y)
 of-parts (pos a) (pos b) h = le→leb a b (omega arith)
 of-parts (pos a) (negsuc b) h = absurd (omega arith)
 of-parts (negsuc a) (pos b) h = tt

@@ -24,7 +24,7 @@ abbrev pub down : ℤ → ℕ
 down (pos n) = zero
 down (negsuc n) = suc n
 
-same : (x y : ℤ) → up x + down y ≡ up y + down x → x ≡ y
+pub same : (x y : ℤ) → up x + down y ≡ up y + down x → x ≡ y
 same (pos a) (pos b) h = ap pos (omega arith)
 same (pos a) (negsuc b) h = absurd (omega arith)
 same (negsuc a) (pos b) h = absurd (omega arith)

@@ -12,7 +12,7 @@ use Rattle.tables.specs.declared.Values.{Values}
 use Rattle.datum.specs.Point.{pointOf, answerOf}
 use Rattle.datum.specs.Inside.{datumAnswer, located}
 use Rattle.datum.proofs.Points.{inside, works, refuses, said}
-use Rattle.datum.proofs.Calls.{coded-page, right, none, placed}
+use Rattle.datum.proofs.Calls.{coded-page, right, none, positioned}
 use borrow.Author.Needs.{needs}
 use Rattle.datum.proofs.answer.Statement.{statement}
 use Rattle.datum.proofs.answer.Tie as tie
@@ -55,7 +55,7 @@ module _ (c : tie.After-located) where
   page = datumPage (c .before .before .datum .given .0 .0)
 
   gave : {case : LocalPositionAnswer} → c .located .result ≡ case → located page (s .args .latitude) (s .args .longitude) ≡ localPosition case
-  gave = placed page (s .fits .latitude) (s .fits .longitude) (c .located .result) (c .located .ensures)
+  gave = positioned (located page) (s .fits .latitude) (s .fits .longitude) (c .located .result) (c .located .ensures)
 
   by-point : pointOf page (s .args .latitude) (s .args .longitude) ≡ answerOf (s .args .code) (s .args .latitude) (s .args .longitude)
   by-point =

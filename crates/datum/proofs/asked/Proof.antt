@@ -10,7 +10,7 @@ use Rattle.tables.specs.declared.Frame.{Frame}
 use Rattle.datum.specs.Point.{isCode, pageOf, pointOf, asked}
 use Rattle.datum.specs.Inside.{datumAnswer, located, isOf}
 use Rattle.datum.proofs.Points.{inside, works, refuses, said}
-use Rattle.datum.proofs.Calls.{coded-page, right, wrong, none, placed, by-flag}
+use Rattle.datum.proofs.Calls.{coded-page, right, wrong, none, positioned, by-flag}
 use borrow.Author.Needs.{needs}
 use Rattle.datum.proofs.asked.Statement.{statement}
 use Rattle.datum.proofs.asked.Tie as tie
@@ -61,7 +61,7 @@ module _ (c : tie.After-located) where
   f = c .before .before .before
 
   gave : {case : LocalPositionAnswer} → c .located .result ≡ case → located (page f) (s f .args .latitude) (s f .args .longitude) ≡ localPosition case
-  gave = placed (page f) (s f .fits .latitude) (s f .fits .longitude) (c .located .result) (c .located .ensures)
+  gave = positioned (located (page f)) (s f .fits .latitude) (s f .fits .longitude) (c .located .result) (c .located .ensures)
 
   by-point : pointOf (page f) (s f .args .latitude) (s f .args .longitude) ≡ asked (isOf (s f .args .geoid)) (s f .args .code) (s f .args .latitude) (s f .args .longitude)
   by-point = right (isOf (s f .args .geoid)) (s f .args .code) (s f .args .latitude) (s f .args .longitude) (page f) (taken f (c .before .if1 .taken)) (has-page f)

@@ -7,10 +7,13 @@ use Rattle.kinds.specs.Answer.{Answer, gives, provided}
 use Rattle.kinds.specs.Kinds.{isPosition}
 use Rattle.kinds.specs.Cases.{localPosition}
 use Rattle.kinds.specs.declared.LocalPosition.{LocalPosition}
+use Rattle.kinds.specs.declared.LocalPositionAnswer.{LocalPositionAnswer}
 use Rattle.kinds.proofs.Answers.{passed, failed, same-value}
 use Rattle.tables.specs.Page.{Page}
 use Rattle.tables.specs.Rule.{enclosed, inBox}
 use Rattle.tables.specs.Inside.{datumPage, frameOf}
+use Rattle.datum.specs.Inside.{ranged}
+use Rattle.datum.proofs.Calls.{positioned}
 use Rattle.datum.proofs.Points.{out-of-range, out-of-box, in-box}
 use borrow.Author.Needs.{needs}
 use Rattle.datum.proofs.located.Statement.{statement}
@@ -39,13 +42,13 @@ module _ (c : tie.After-new) where
   abbrev page : Page
   page = datumPage (s .args .datum)
 
-  told : {a : Answer (ℤ × ℤ)} → localPosition (c .new .result) ≡ a → provided (isPosition latitude longitude) 3 (gives (latitude, longitude)) ≡ a
-  told e = sym (c .new .ensures ∙ (λ i. provided (isPosition (of (s .fits .latitude) .reads i) (of (s .fits .longitude) .reads i)) 3 (gives (of (s .fits .latitude) .reads i, of (s .fits .longitude) .reads i)))) ∙ e
+  told : {case : LocalPositionAnswer} → c .new .result ≡ case → ranged latitude longitude ≡ localPosition case
+  told = positioned ranged (s .fits .latitude) (s .fits .longitude) (c .new .result) (c .new .ensures)
 
 returns : tie.Need-returns
 returns c =
     let n = c .before .before in
-    let out = failed (isPosition (latitude n) (longitude n)) 3 (latitude n, longitude n) (told n (ap localPosition (c .enum-told .given .1))) .0 in
+    let out = failed (isPosition (latitude n) (longitude n)) 3 (latitude n, longitude n) (told n (c .enum-told .given .1)) .0 in
     sym (out-of-range (page n) (latitude n) (longitude n) out)
 
 frame-requires : tie.Need-frame-requires
@@ -64,7 +67,7 @@ module _ (c : tie.After-holds) where
 
   made : (isPosition (latitude n) (longitude n) ≡ true) × _≡_ {A = ℤ × ℤ} (latitude n, longitude n) (position .latitude .0, position .longitude .0)
   made =
-      let p = passed (isPosition (latitude n) (longitude n)) 3 (gives (latitude n, longitude n)) (told n (ap localPosition (c .before .before .before .position .given .1))) in
+      let p = passed (isPosition (latitude n) (longitude n)) 3 (gives (latitude n, longitude n)) (told n (c .before .before .before .position .given .1)) in
       (p .0, same-value (p .1))
 
   frame : c .before .frame .result ≡ frameOf (page n)
