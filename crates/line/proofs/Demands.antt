@@ -1,4 +1,4 @@
--- What document 01 asks of the line program, of one line. Stated over specs/ alone. Assumes nothing.
+-- What documents 01 and 02 ask of the line program, of one line. Stated over specs/ alone. Assumes nothing.
 use mathlib.Core.Path.{_≡_, refl, sym, _∙_}
 use mathlib.Core.Bool.{true, not, _||_, false≢true}
 use mathlib.Core.List.{List, [], _∷_, _++_}
@@ -12,19 +12,25 @@ use Rattle.whole.specs.Places.{fromPlaces, inPlaces}
 use Rattle.whole.specs.Digits.{allDigits, fromDigits, digitOf, digits}
 use Rattle.whole.proofs.Bools.{either}
 use Rattle.kinds.specs.Answer.{gives, refused, AllHold, FirstFails, inOrder, placed}
-use Rattle.kinds.proofs.Answers.{held, first-number, in-two, following-tests}
+use Rattle.kinds.specs.Bytes.{ascii}
+use Rattle.kinds.proofs.Answers.{held, first-or-behind, fails, first-number, in-two, following-tests}
 use Rattle.kinds.proofs.Demands as kinds
 use Rattle.position.specs.Text.{latitude, longitude, hasText, isAngle, inSixties, angle}
 use Rattle.tables.specs.Page.{Family, shift, geoid, isEither}
 use Rattle.tables.specs.Rule as rule
-use Rattle.datum.specs.Point.{answerOf, pageOf}
+use Rattle.datum.specs.Point.{answerOf, shiftOf, pageOf}
 use Rattle.datum.specs.Exact.{exact, AllWithin, demanded}
 use Rattle.datum.proofs.Demands as datum
 use Rattle.decimal.specs.Decimal.{unpadded, decimal, printedNumber}
-use Rattle.line.specs.Line.{codeByte, code, latitudeOf, longitudeOf, textTests, placeTests, tests, answerTo, answerLine, lineOf}
+use Rattle.waypoint.specs.Waypoint.{elementOf}
+use Rattle.waypoint.proofs.Positions.{as-refused}
+use Rattle.line.specs.Line.{lineFeed, unbroken, codeByte, code, latitudeOf, longitudeOf, textTests, placeTests, tests, answerTo, answerLine, lineOf, elementTo, textTo, lineIn}
 use Rattle.line.specs.Form.{lineBytes}
-use Rattle.line.proofs.Calls.{in-range}
-use Rattle.line.proofs.Form as form
+use Rattle.line.specs.declared.Form.{Form}
+use Rattle.line.specs.declared.Form.the-variants.{Numbers, Waypoints}
+use Rattle.line.proofs.Calls.{in-range, numbers-are}
+use Rattle.line.proofs.Printing.{text-short, text-ends}
+use Rattle.line.proofs.Made as form
 use Rattle.line.proofs.Lines as lines
 
 -- ---- 'code digit, space, latitude text, space, longitude text; 26 bytes before the line feed'
@@ -135,3 +141,52 @@ pub record Printed : Type 0 where
 pub printed : Printed
 unfolding printedNumber decimal unpadded digits inPlaces answerLine
 printed = record { shifts = refl; height = refl }
+
+-- ---- document 02, wish 1: a line in a form
+-- in numbers it is the line above
+pub in-numbers : (line : List ℕ) (room : ℕ) → lineIn Numbers line room ≡ lineOf line room
+in-numbers line room = numbers-are line room
+
+-- a line that was read gets the waypoint of the point that it says
+pub waypoint-as : (line : List ℕ) → AllHold (textTests line) → elementTo line ≡ elementOf (code line) (latitudeOf line) (longitudeOf line)
+waypoint-as line all = held (textTests line) (elementOf (code line) (latitudeOf line) (longitudeOf line)) all
+
+pub made-waypoint : (digit : ℕ) (north east : ℤ) → digit < 10 → hasText latitude north ≡ true → hasText longitude east ≡ true
+    → elementTo (lineBytes digit north east) ≡ elementOf (pos digit) north east
+made-waypoint digit north east d n e =
+    let says = form.made-says digit north east d n e in
+    waypoint-as (lineBytes digit north east) (form.made-holds digit north east d n e) ∙ (λ i. elementOf (says .0 i) (says .1 .0 i) (says .1 .1 i))
+
+-- and is refused exactly with the number of the first of its text's tests that does not hold, or as its point's shift is
+pub waypoint-refused-where : (line : List ℕ) (n : ℕ) → (elementTo line ≡ refused n)
+    ↔ (FirstFails (textTests line) n ⊎ (AllHold (textTests line) × (shiftOf (code line) (latitudeOf line) (longitudeOf line) ≡ refused n)))
+waypoint-refused-where line n =
+    let same = as-refused (code line) (latitudeOf line) (longitudeOf line) n in (
+      (λ h. ⊎-elim inl (λ p. inr (p .0, same .0 (p .1))) (first-or-behind (textTests line) (elementOf (code line) (latitudeOf line) (longitudeOf line)) n h)),
+      ⊎-elim
+          (λ f. fails (textTests line) (elementOf (code line) (latitudeOf line) (longitudeOf line)) n f)
+          (λ p. waypoint-as line (p .0) ∙ same .1 (p .1)),
+    )
+
+-- the line out has at most 48 bytes, and its line feed is the last of them
+pub text-at-most : (form : Form) (line : List ℕ) {text : List ℕ} → textTo form line ≡ gives text → length text ≤ 48
+text-at-most form line h = text-short form line h
+
+pub line-feed-last : (form : Form) (line : List ℕ) {text : List ℕ} → textTo form line ≡ gives text → (t : List ℕ) × ((text ≡ t ++ lineFeed ∷ []) × (unbroken t ≡ true))
+line-feed-last form line h = text-ends form line h
+
+-- 5 of a geoid datum, before 6, and before 7; a text out of range before it
+pub record WaypointOrders : Type 0 where
+  -- the centre of code 6, and code 6 at the centre of code 1, which is outside its area
+  pub geoid : lineIn Waypoints (ascii "6 230000.000N 0570000.000E") 48 ≡ refused 5
+  pub geoid-and-area : lineIn Waypoints (ascii "6 350000.000N 0330000.000E") 0 ≡ refused 5
+  -- code 9 at 99° north, and code 5 there
+  pub range-and-code : lineIn Waypoints (ascii "9 990000.000N 0330000.000E") 48 ≡ refused 3
+  pub range-and-geoid : lineIn Waypoints (ascii "5 990000.000N 0330000.000E") 48 ≡ refused 3
+  -- code 9, which has no area; code 4 at the centre of code 1, and no room
+  pub code-and-area : lineIn Waypoints (ascii "9 350000.000N 0330000.000E") 48 ≡ refused 4
+  pub area-and-room : lineIn Waypoints (ascii "4 350000.000N 0330000.000E") 0 ≡ refused 6
+
+pub waypoint-orders : WaypointOrders
+unfolding isAngle inSixties angle allDigits fromDigits fromPlaces digitOf
+waypoint-orders = record { geoid = refl; geoid-and-area = refl; range-and-code = refl; range-and-geoid = refl; code-and-area = refl; area-and-room = refl }

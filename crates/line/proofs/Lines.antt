@@ -1,59 +1,19 @@
 -- Lines that are printed alike have the same numbers. Assumes nothing.
 use mathlib.Core.Path.{_≡_, refl, sym, ap, _∙_}
-use mathlib.Core.Bool.{Bool, true, _&&_}
+use mathlib.Core.Bool.{true, _&&_}
 use mathlib.Core.List.{List, [], _∷_, _++_, append-assoc}
-use Prim.Native.Nat.{ℕ, suc, _≤_}
+use Prim.Native.Nat.{ℕ, _≤_}
 use native.Mathlib.Omega.{arith}
-use lib.Dec.{leb, ltb}
-use lib.IntN.{ℤ, pos, negsuc}
-use borrow.Author.Tests.{leb-true, lt-ltb, ltb-true}
-use Rattle.whole.specs.Every.{every}
-use Rattle.whole.specs.Digits.{isDigit, allDigits, digits}
+use lib.IntN.{ℤ}
 use Rattle.whole.proofs.Bools.{both}
-use Rattle.whole.proofs.Every.{every-weaker}
-use Rattle.whole.proofs.Digits.{all-digits}
 use Rattle.kinds.specs.Kinds.{isFourBytes}
 use Rattle.tables.specs.Page.{Family, shift, geoid, each}
-use Rattle.decimal.specs.Decimal.{decimal, printedNumber}
+use Rattle.decimal.specs.Decimal.{printedNumber}
 use Rattle.line.specs.Line.{space, lineFeed, answerLine}
-use Rattle.decimal.proofs.Numbers.{unpadded-every}
 use Rattle.decimal.proofs.Apart.{printed-apart}
+use Rattle.decimal.proofs.Told.{number-above, told}
 
--- ---- a space and a line feed are below the bytes of a number
-abbrev above : ℕ → Bool
-above byte = ltb 44 byte
-
-digit-above : (b : ℕ) → isDigit b ≡ true → above b ≡ true
-digit-above b h =
-    let low = leb-true 48 b (both (leb 48 b) (leb b 57) h .0) in
-    lt-ltb 44 b (omega arith)
-
-decimal-above : (n : ℕ) → every above (decimal n) ≡ true
-unfolding decimal allDigits
-decimal-above n = unpadded-every above (digits 10 n) (every-weaker isDigit above digit-above (digits 10 n) (all-digits 10 n))
-
-number-above : (x : ℤ) → every above (printedNumber x) ≡ true
-unfolding printedNumber
-number-above (pos n) = decimal-above n
-number-above (negsuc n) = decimal-above (suc n)
-
--- ---- so what stands before the first of them, which it is, and what follows are told
-told : (x y r t : List ℕ) (s z : ℕ) → every above x ≡ true → every above y ≡ true → s ≤ 44 → z ≤ 44 → x ++ (s ∷ r) ≡ y ++ (z ∷ t) → (x ≡ y) × ((s ≡ z) × (r ≡ t))
-told [] [] r t s z hx hy hs hz e = (refl, (cc, cc))
-told [] (b ∷ y) r t s z hx hy hs hz e =
-    let same : s ≡ b = cc in
-    let high = ltb-true 44 b (both (above b) (every above y) hy .0) in
-    absurd (omega (arith, same, high, hs))
-told (a ∷ x) [] r t s z hx hy hs hz e =
-    let same : a ≡ z = cc in
-    let high = ltb-true 44 a (both (above a) (every above x) hx .0) in
-    absurd (omega (arith, same, high, hz))
-told (a ∷ x) (b ∷ y) r t s z hx hy hs hz e =
-    let head : a ≡ b = cc in
-    let rest = told x y r t s z (both (above a) (every above x) hx .1) (both (above b) (every above y) hy .1) hs hz cc in
-    ((λ i. head i ∷ rest .0 i), rest .1)
-
--- a number, the byte after it and the rest
+-- ---- a number, the byte after it and the rest
 first-told : (x y : ℤ) (r t : List ℕ) (s z : ℕ) → isFourBytes x ≡ true → isFourBytes y ≡ true → s ≤ 44 → z ≤ 44 → printedNumber x ++ (s ∷ r) ≡ printedNumber y ++ (z ∷ t) → (x ≡ y) × ((s ≡ z) × (r ≡ t))
 first-told x y r t s z fx fy hs hz e =
     let f = told (printedNumber x) (printedNumber y) r t s z (number-above x) (number-above y) hs hz e in

@@ -1,16 +1,17 @@
--- A line that is written number by number. Assumes nothing.
-use mathlib.Core.Path.{_≡_, sym, ap, _∙_, subst}
+-- A line that is written number by number, or as a waypoint. Assumes nothing.
+use mathlib.Core.Path.{_≡_, sym, ap, _∙_}
 use mathlib.Core.List.{List, [], _∷_, _++_, append-assoc}
 use Prim.Native.Nat.{ℕ, _+_, _-_, _≤_}
 use native.Mathlib.Omega.{arith}
 use lib.IntN.{ℤ}
-use lib.ListN.{length, take, drop, length-append, length-drop}
-use lib.Seq.{take-at}
+use lib.ListN.{length, take, drop, set, replicate, length-append}
 use borrow.Rule.Slice.PartMut.{putMid}
-use Rattle.kinds.specs.Answer.{Answer, placed, counted, lent}
-use Rattle.kinds.proofs.Writing.{Written, lent-part, grown}
+use Rattle.kinds.proofs.Writing.{byte-after, rest-long, still-long, grown-by}
 use Rattle.tables.specs.Page.{Family, shift, geoid}
 use Rattle.decimal.specs.Decimal.{printedNumber}
+use Rattle.waypoint.specs.Waypoint.{element}
+use Rattle.waypoint.specs.Inside.{Printable}
+use Rattle.waypoint.proofs.Writing.{element-short}
 use Rattle.line.specs.Line.{space, lineFeed, answerLine}
 use Rattle.decimal.proofs.Numbers.{printed-short}
 
@@ -24,17 +25,6 @@ field-long x next = length-append (printedNumber x) (next ∷ [])
 shift-fields : (a b c : ℤ) → (field a space ++ field b space) ++ field c lineFeed ≡ answerLine (shift a b c)
 unfolding answerLine
 shift-fields a b c = simp append-assoc
-
--- d is the line as it came, p what stands at its start already, and e the line now
-module _ (p d : List ℕ) {e : List ℕ} {b : ℕ} (is-e : e ≡ p ++ drop b d) (is-b : b ≡ length p) where
-  pub rest-long : length (take (length e - b) (drop b e)) ≡ length d - b
-  rest-long = ap (λ (l : List ℕ). length (take (length l - b) (drop b l))) is-e ∙ ap length (lent-part p d b (sym is-b)) ∙ length-drop b d
-
-  pub still-long : b ≤ length d → length e ≡ length d
-  still-long h = ap length is-e ∙ omega (arith, length-append p (drop b d), length-drop b d, is-b, h)
-
-  pub grown-by : (text new : List ℕ) (n : ℕ) → new ≡ text ++ drop n (take (length e - b) (drop b e)) → putMid b (length e - b) e new ≡ (p ++ text) ++ drop (b + n) d
-  grown-by text new n is-new = rw (is-new, is-e) (grown p d text b n (sym is-b))
 
 -- ---- three numbers: d is the line as it came, and of each number r says how many bytes were written, new what was lent for it,
 -- afterwards
@@ -93,23 +83,20 @@ module _ (x : ℤ) (d : List ℕ) (room : 36 ≤ length d) where
             let text = shift-fields x y z ∙ (λ i. answerLine (shift (ea i) (eb i) (ec i))) in
             (third-long ∙ ap length text, is-e₃ ∙ ap (λ (l : List ℕ). l ++ drop (r₁ + r₂ + r₃) d) text)
 
--- ---- a text that was put at the start of zeros, in r bytes, is taken from there
-module _ (text zeros new : List ℕ) {r : ℕ} (is-r : r ≡ length text) (is-new : new ≡ text ++ drop r zeros) where
-  pub text-fits : r ≤ length new
-  text-fits = subst (λ (l : List ℕ). r ≤ length l) (sym is-new) (omega (arith, is-r, length-append text (drop r zeros)))
-
-  text-back : take r new ≡ text
-  text-back = ap (take r) is-new ∙ take-at text (drop r zeros) r (sym is-r)
-
-  pub text-counted : r ≡ length (take r new)
-  text-counted = is-r ∙ ap length (sym text-back)
-
-  -- a is what putting it answers, and l the lent buffer afterwards; it is the line of an answer
-  pub line-put : (v : Family ℤ) (out : List ℕ) {a : Answer ℕ} {l : List ℕ} → text ≡ answerLine v → Written (placed (take r new) (length out)) out a l → Written (placed (answerLine v) (length out)) out a l
-  line-put v out e w =
-      let same = text-back ∙ e in
-      (w .0 ∙ ap (λ (t : List ℕ). counted (placed t (length out))) same, w .1 ∙ ap (λ (t : List ℕ). lent (placed t (length out)) out) same)
-
 pub geoid-field : {x n : ℤ} → x ≡ n → field x lineFeed ≡ answerLine (geoid n)
 unfolding answerLine
 geoid-field e = ap (λ (y : ℤ). field y lineFeed) e
+
+-- ---- a waypoint and its line feed
+abbrev pub waypoint : ℤ → ℤ → List ℕ
+waypoint latitude longitude = element latitude longitude ++ lineFeed ∷ []
+
+module _ (latitude longitude : ℤ) where
+  pub waypoint-long : {r : ℕ} → r ≡ length (element latitude longitude) → r + 1 ≡ length (waypoint latitude longitude)
+  waypoint-long is-r = omega (arith, is-r, length-append (element latitude longitude) (lineFeed ∷ []))
+
+  -- text is 48 zeros with the element at their start
+  pub waypoint-ended : Printable latitude longitude → {r : ℕ} {text : List ℕ} → r ≡ length (element latitude longitude) → text ≡ element latitude longitude ++ drop r (replicate 48 0)
+      → set text r lineFeed ≡ waypoint latitude longitude ++ drop (r + 1) (replicate 48 0)
+  waypoint-ended small {r} is-r is-text =
+      ap (λ (l : List ℕ). set l r lineFeed) is-text ∙ byte-after (element latitude longitude) (replicate 48 0) lineFeed r (sym is-r) (omega (arith, is-r, element-short latitude longitude small))

@@ -1,12 +1,15 @@
 -- What the private functions of this crate promise one another.
 use mathlib.Core.Bool.{cond}
-use mathlib.Core.List.{List}
+use mathlib.Core.List.{List, [], _∷_, _++_}
 use Prim.Native.Nat.{ℕ}
 use lib.Dec.{ltb}
 use lib.IntN.{ℤ}
 use Rattle.kinds.specs.Answer.{Answer, gives, refused, numberOf, inOrder, placed, following}
 use Rattle.datum.specs.Point.{answerOf}
-use Rattle.line.specs.Line.{code, latitudeOf, longitudeOf, textTests, answerLine}
+use Rattle.waypoint.specs.Waypoint.{elementOf}
+use Rattle.line.specs.Line.{lineFeed, code, latitudeOf, longitudeOf, textTests, answerLine}
+use Rattle.line.specs.declared.Form.{Form}
+use Rattle.line.specs.declared.Form.the-variants.{Numbers, Waypoints}
 use Rattle.line.specs.declared.Place.{Place}
 use Rattle.line.specs.declared.PlaceAnswer.{PlaceAnswer}
 use Rattle.line.specs.declared.PlaceAnswer.the-variants as Read
@@ -41,3 +44,10 @@ firstRefusal latitude (refused n) = cond (ltb n latitude) n latitude
 -- a place that was read, for a lent buffer with room for so many bytes
 unfoldable pub answeredOf : Said → ℕ → Answer (List ℕ)
 answeredOf said room = following (answerOf (said .code) (said .latitude) (said .longitude)) (λ values. placed (answerLine values) room)
+
+unfoldable pub waypointPut : Said → ℕ → Answer (List ℕ)
+waypointPut said room = following (elementOf (said .code) (said .latitude) (said .longitude)) (λ element. placed (element ++ lineFeed ∷ []) room)
+
+abbrev pub answeredIn : Form → Said → ℕ → Answer (List ℕ)
+answeredIn Numbers said room = answeredOf said room
+answeredIn Waypoints said room = waypointPut said room

@@ -14,6 +14,9 @@ use Rattle.tables.specs.Page.{Family, shift, geoid}
 use Rattle.tables.specs.Rule.{inArea, worked}
 use Rattle.datum.specs.Point.{isCode, pageOf}
 use Rattle.decimal.specs.Decimal.{printedNumber}
+use Rattle.waypoint.specs.Waypoint.{elementOf}
+use Rattle.line.specs.declared.Form.{Form}
+use Rattle.line.specs.declared.Form.the-variants.{Numbers, Waypoints}
 
 abbrev pub space : ℕ
 space = 32
@@ -87,3 +90,16 @@ answerLine (geoid n) = printedNumber n ++ lineFeed ∷ []
 -- 'then 7 if the lent output line is shorter than the answer's text with its line feed'
 abbrev pub lineOf : List ℕ → ℕ → Answer (List ℕ)
 lineOf line room = following (answerTo line) (λ values. placed (answerLine values) room)
+
+-- ---- document 02, wish 1: a line in a form, numbers or waypoints
+-- the waypoint of its point: 'as for a shift', after the tests of the text
+abbrev pub elementTo : List ℕ → Answer (List ℕ)
+elementTo line = inOrder (textTests line) (elementOf (code line) (latitudeOf line) (longitudeOf line))
+
+-- a line out in the form
+abbrev pub textTo : Form → List ℕ → Answer (List ℕ)
+textTo Numbers line = following (answerTo line) (λ values. gives (answerLine values))
+textTo Waypoints line = following (elementTo line) (λ element. gives (element ++ lineFeed ∷ []))
+
+abbrev pub lineIn : Form → List ℕ → ℕ → Answer (List ℕ)
+lineIn form line room = following (textTo form line) (λ text. placed text room)

@@ -1,4 +1,4 @@
-// One line in, one line out: a point as text, and its shift or geoid height as it is printed.
+// One line in, one line out: a point as text, and its shift or geoid height as it is printed, or its waypoint.
 use datum::PointAnswer;
 use datum::Shifts;
 use decimal::number_and;
@@ -8,18 +8,23 @@ use kinds::LocalLatitudeAnswer;
 use kinds::LocalLongitude;
 use kinds::LocalLongitudeAnswer;
 use kinds::Refusal;
+use kinds::Wgs84Position;
+use kinds::Wgs84PositionAnswer;
 use kinds::WrittenAnswer;
 use kinds::put;
+use waypoint::ELEMENT;
 ghost use mathlib.Core.Path.{_≡_};
-ghost use mathlib.Core.List.{_++_};
+ghost use mathlib.Core.List.{[], _∷_, _++_};
 ghost use Prim.Native.Nat.{_+_, _≤_};
 ghost use lib.ListN.{length, drop};
 ghost use Rattle.kinds.specs.Answer.{numberOf, placed, counted, lent};
 ghost use Rattle.kinds.specs.Cases.{localLongitude, written};
 ghost use Rattle.position.specs.Text.{longitude, read};
 ghost use Rattle.datum.specs.Cases.{shiftSays, geoidSays};
-ghost use Rattle.line.specs.Line.{answerLine, lineOf};
-ghost use Rattle.line.specs.Inside.{placeSays, placeAnswer, pointSaid, withLongitude, firstRefusal, answeredOf};
+ghost use Rattle.waypoint.specs.Waypoint.{element};
+ghost use Rattle.waypoint.specs.Inside.{Printable};
+ghost use Rattle.line.specs.Line.{lineFeed, answerLine, lineOf, lineIn};
+ghost use Rattle.line.specs.Inside.{placeSays, placeAnswer, pointSaid, withLongitude, firstRefusal, answeredOf, waypointPut, answeredIn};
 
 // Answers the line whose bytes before the line feed are text: `1 350000.000N 0330000.000E` gives `-384288 -110294 24430` and a
 // line feed, at the start of out, and how many bytes these are. Refused, in this order: 1 another length than 26, 2 a byte that
@@ -28,8 +33,23 @@ pub fn line(text: &[u8], out: &mut [u8]) -> WrittenAnswer
     ensures { λ r. ⌜ written r ≡ counted (lineOf (now (text .entry)) (length (now (out .entry)))) ⌝ }
     ensures { λ r. ⌜ now (out .exit) ≡ lent (lineOf (now (text .entry)) (length (now (out .entry)))) (now (out .entry)) ⌝ }
 {
+    line_in(Form::Numbers, text, out)
+}
+
+// How a line is answered: with numbers, as above, or with the waypoint of its point, for the drawing office.
+pub enum Form {
+    Numbers,
+    Waypoints,
+}
+
+// Answers a line in a form. `1 350000.000N 0330000.000E` gives the waypoint `<wpt lat="34.998932533" lon="32.999693628"/>` and a
+// line feed; refused as above, but with 5 of a geoid datum, between 4 and 6.
+pub fn line_in(form: Form, text: &[u8], out: &mut [u8]) -> WrittenAnswer
+    ensures { λ r. ⌜ written r ≡ counted (lineIn form (now (text .entry)) (length (now (out .entry)))) ⌝ }
+    ensures { λ r. ⌜ now (out .exit) ≡ lent (lineIn form (now (text .entry)) (length (now (out .entry)))) (now (out .entry)) ⌝ }
+{
     match read(text) {
-        PlaceAnswer::Gives(place) => answered(place, out),
+        PlaceAnswer::Gives(place) => answered(form, place, out),
         PlaceAnswer::Refused(why) => WrittenAnswer::Refused(why),
     }
 }
@@ -39,6 +59,9 @@ pub const LINE: usize = 26;
 
 // the most bytes of a line out: three numbers of 11, each with the space or the line feed that follows it
 pub const ANSWER: usize = 36;
+
+// or a waypoint and its line feed
+pub const WAYPOINT: usize = ELEMENT + 1;
 
 // A point as a line says it.
 struct Place {
@@ -112,7 +135,43 @@ fn first_refusal(latitude: Refusal, text: &[u8]) -> Refusal
 }
 
 // Answers the point of a line that was read.
-fn answered(place: Place, out: &mut [u8]) -> WrittenAnswer
+fn answered(form: Form, place: Place, out: &mut [u8]) -> WrittenAnswer
+    ensures { λ r. ⌜ written r ≡ counted (answeredIn form (placeSays place) (length (now (out .entry)))) ⌝ }
+    ensures { λ r. ⌜ now (out .exit) ≡ lent (answeredIn form (placeSays place) (length (now (out .entry)))) (now (out .entry)) ⌝ }
+{
+    match form {
+        Form::Numbers => in_numbers(place, out),
+        Form::Waypoints => converted(place, out),
+    }
+}
+
+fn converted(place: Place, out: &mut [u8]) -> WrittenAnswer
+    ensures { λ r. ⌜ written r ≡ counted (waypointPut (placeSays place) (length (now (out .entry)))) ⌝ }
+    ensures { λ r. ⌜ now (out .exit) ≡ lent (waypointPut (placeSays place) (length (now (out .entry)))) (now (out .entry)) ⌝ }
+{
+    match datum::wgs84(
+        place.code,
+        place.latitude.ms() as i64,
+        place.longitude.ms() as i64,
+    ) {
+        Wgs84PositionAnswer::Gives(position) => put_waypoint(position, out),
+        Wgs84PositionAnswer::Refused(why) => WrittenAnswer::Refused(why),
+    }
+}
+
+fn put_waypoint(position: Wgs84Position, out: &mut [u8]) -> WrittenAnswer
+    requires { ⌜ Printable (position .latitude .0) (position .longitude .0) ⌝ }
+    ensures { λ r. ⌜ written r ≡ counted (placed (element (position .latitude .0) (position .longitude .0) ++ lineFeed ∷ []) (length (now (out .entry)))) ⌝ }
+    ensures { λ r. ⌜ now (out .exit) ≡ lent (placed (element (position .latitude .0) (position .longitude .0) ++ lineFeed ∷ []) (length (now (out .entry)))) (now (out .entry)) ⌝ }
+{
+    let mut text = [0; WAYPOINT];
+    let end = waypoint::element(position, &mut text);
+    text[end] = b'\n';
+    let count = end + 1;
+    put(&text[..count], out)
+}
+
+fn in_numbers(place: Place, out: &mut [u8]) -> WrittenAnswer
     ensures { λ r. ⌜ written r ≡ counted (answeredOf (placeSays place) (length (now (out .entry)))) ⌝ }
     ensures { λ r. ⌜ now (out .exit) ≡ lent (answeredOf (placeSays place) (length (now (out .entry)))) (now (out .entry)) ⌝ }
 {

@@ -1,20 +1,29 @@
-// The line program: answers each line of standard input on standard output. Where reading fails, or writing does and no signal has
-// ended it, it says so on standard error and stops; where the limit ended the input, it says so there too. No contract says which
-// bytes are read and written: those here say what becomes of the bytes that stand in a buffer after a read, and how many bytes are
-// handed over to be written for them.
+// The line program: answers each line of standard input on standard output, with numbers or, where it is called with `--gpx`, in a
+// GPX file of waypoints. Where reading fails, or writing does and no signal has ended it, it says so on standard error and stops;
+// where the limit ended the input, it says so there too. No contract says which bytes are read and written: those here say what
+// becomes of the bytes that stand in a buffer after a read, and how many bytes are handed over to be written for them.
+use kinds::WrittenAnswer;
 use libc::STDERR_FILENO;
 use libc::STDIN_FILENO;
 use libc::STDOUT_FILENO;
+use line::Form;
 use stream::Reading;
 use whole::least;
 ghost use mathlib.Core.Path.{_≡_};
 ghost use mathlib.Core.Bool.{true, false};
-ghost use Prim.Native.Nat.{_<_, _≤_};
+ghost use Prim.Native.Nat.{_+_, _<_, _≤_};
 ghost use lib.IntN.{pos};
 ghost use lib.ListN.{length, take};
 ghost use Rattle.libc.specs.Io.{Moved};
-ghost use Rattle.stream.specs.Stream.{limit, held, answers, closing};
+ghost use Rattle.stream.specs.Stream.{head, foot, limit, held, answers, closing};
+ghost use Rattle.lines.specs.Asked.{asked};
 ghost use Rattle.lines.specs.Answered.{Answered, Ended};
+
+// What the program is asked for: answers in a form, or what it does not know.
+enum Request {
+    Answers(Form),
+    Unknown,
+}
 
 // The reading after some bytes, how many these are, how many were handed over for them, and whether to stop at once.
 struct Turn {
@@ -31,15 +40,43 @@ struct Handed {
 }
 
 fn main() {
-    let mut input = [0; 65_536];
-    // room for the answers of a quarter of what is read at a time: 36 bytes for the first byte, and 10 for each one more
-    let mut output = [0; 163_866];
-    let last = run(&mut input, &mut output);
-    tell(last);
+    // a longer word is no `--gpx`, and comes as an empty one
+    let mut word = [0; 5];
+    let count = os::arg(1, &mut word);
+    match asked(os::arg_count(), &word[..count]) {
+        Request::Answers(form) => in_form(form),
+        Request::Unknown => {
+            io::write_all(STDERR_FILENO, b"lines: it takes no argument but --gpx\n");
+        }
+    }
 }
 
-// Says where nothing more may be taken. Whether bytes follow is not known, since to know it one of them would have to be read.
-fn tell(last: Turn) {
+// What so many words ask for, the program's name among them, by the one after the name.
+fn asked(words: usize, next: &[u8]) -> Request
+    ensures { λ r. ⌜ r ≡ asked words (now (next .entry)) ⌝ }
+{
+    if words < 2 {
+        return Request::Answers(Form::Numbers);
+    }
+    if (words == 2) & check::same(next, b"--gpx") {
+        return Request::Answers(Form::Waypoints);
+    }
+    Request::Unknown
+}
+
+fn in_form(form: Form) {
+    let mut input = [0; 65_536];
+    // room for the answers of an eighth of what is read at a time: 48 bytes for the first byte, and 19 for each one more
+    let mut output = [0; 155_677];
+    let last = run(form, &mut input, &mut output);
+    tell(form, last);
+}
+
+// Says where nothing more may be taken, of a run that has ended. Whether bytes follow is not known, since to know it one of them
+// would have to be read.
+fn tell(form: Form, last: Turn)
+    requires { ⌜ (last .«is_failed» ≡ false → Ended form last (last .handed)) ⌝ }
+{
     let reading = last.reading;
     if !last.is_failed && reading.left() == 0 {
         io::write_all(
@@ -49,13 +86,85 @@ fn tell(last: Turn) {
     }
 }
 
-// Reads and answers until no byte comes or none may be taken any more. The answer counts the bytes of the last read, and those that
-// were handed over in all.
-fn run(input: &mut [u8], output: &mut [u8]) -> Turn
-    requires { ⌜ (0 < length (now input)) × (36 ≤ length (now output)) ⌝ }
-    ensures { λ r. ⌜ (r .«is_failed» ≡ false → Ended r) ⌝ }
+// Hands over the head, the answers and the foot. The answer counts the bytes of the last read, and those that were handed over in
+// all.
+fn run(form: Form, input: &mut [u8], output: &mut [u8]) -> Turn
+    requires { ⌜ (0 < length (now input)) × (121 ≤ length (now output)) ⌝ }
+    ensures { λ r. ⌜ (r .«is_failed» ≡ false → Ended form r (r .handed)) ⌝ }
 {
-    let mut reading = Reading::start();
+    let before = begin(form, output);
+    if !before.is_written {
+        return Turn {
+            reading: Reading::start(form),
+            count: 0,
+            handed: 0,
+            is_failed: true,
+        };
+    }
+    let last = read_all(form, input, output);
+    if last.is_failed {
+        return last;
+    }
+    let reading = last.reading;
+    let after = close(form, output);
+    let handed = before.bytes + last.handed + after.bytes;
+    Turn {
+        reading,
+        count: last.count,
+        handed,
+        is_failed: !after.is_written,
+    }
+}
+
+// Hands over what stands before the first line.
+fn begin(form: Form, output: &mut [u8]) -> Handed
+    requires { ⌜ length (head form) ≤ length (now output) ⌝ }
+    ensures { λ r. ⌜ r .bytes ≡ length (head form) ⌝ }
+{
+    match stream::head(form, output) {
+        WrittenAnswer::Gives(count) => write_head(form, &output[..count]),
+        WrittenAnswer::Refused(_) => Handed {
+            bytes: 0,
+            is_written: false,
+        },
+    }
+}
+
+// And what stands after the last.
+fn close(form: Form, output: &mut [u8]) -> Handed
+    requires { ⌜ length (foot form) ≤ length (now output) ⌝ }
+    ensures { λ r. ⌜ r .bytes ≡ length (foot form) ⌝ }
+{
+    match stream::foot(form, output) {
+        WrittenAnswer::Gives(count) => write_foot(form, &output[..count]),
+        WrittenAnswer::Refused(_) => Handed {
+            bytes: 0,
+            is_written: false,
+        },
+    }
+}
+
+fn write_head(form: Form, text: &[u8]) -> Handed
+    requires { ⌜ now text ≡ head form ⌝ }
+    ensures { λ r. ⌜ r .bytes ≡ length (head form) ⌝ }
+{
+    handed_over(text)
+}
+
+fn write_foot(form: Form, text: &[u8]) -> Handed
+    requires { ⌜ now text ≡ foot form ⌝ }
+    ensures { λ r. ⌜ r .bytes ≡ length (foot form) ⌝ }
+{
+    handed_over(text)
+}
+
+// Reads and answers until no byte comes or none may be taken any more. The answer counts the bytes of the last read, and those that
+// were handed over for all: with the head and the foot these are the output's.
+fn read_all(form: Form, input: &mut [u8], output: &mut [u8]) -> Turn
+    requires { ⌜ (0 < length (now input)) × (48 ≤ length (now output)) ⌝ }
+    ensures { λ r. ⌜ (r .«is_failed» ≡ false → Ended form r (length (head form) + r .handed + length (foot form))) ⌝ }
+{
+    let mut reading = Reading::start(form);
     let mut handed = 0;
     loop {
         let turn = read(reading, input, output);
@@ -79,7 +188,7 @@ fn run(input: &mut [u8], output: &mut [u8]) -> Turn
 
 // Reads once, at most so many bytes as may be taken, and answers the lines that end in them.
 fn read(reading: Reading, input: &mut [u8], output: &mut [u8]) -> Turn
-    requires { ⌜ (0 < length (now input)) × (36 ≤ length (now output)) ⌝ }
+    requires { ⌜ (0 < length (now input)) × (48 ≤ length (now output)) ⌝ }
     requires { ⌜ (0 < reading .left) × (reading .left ≤ limit) ⌝ }
     ensures { λ r. ⌜ (r .«is_failed» ≡ false → (r .count ≤ length (now (input .exit))) × Answered reading (take (r .count) (now (input .exit))) (r .reading) (r .handed)) ⌝ }
 {
@@ -91,7 +200,7 @@ fn read(reading: Reading, input: &mut [u8], output: &mut [u8]) -> Turn
 // What becomes of a read into a piece that is not empty: the bytes that it gave are answered, unless it failed. To give none, at
 // the end of the input, is no failure.
 fn turned(got: isize, reading: Reading, piece: &[u8], output: &mut [u8]) -> Turn
-    requires { ⌜ (0 < length (now piece)) × (36 ≤ length (now output)) ⌝ }
+    requires { ⌜ (0 < length (now piece)) × (48 ≤ length (now output)) ⌝ }
     requires { ⌜ (length (now piece) ≤ reading .left) × (reading .left ≤ limit) ⌝ }
     requires { ⌜ Moved (length (now piece)) got ⌝ }
     ensures { λ r. ⌜ (got ≡ pos 0 → r .«is_failed» ≡ false) ⌝ }
@@ -112,7 +221,7 @@ fn turned(got: isize, reading: Reading, piece: &[u8], output: &mut [u8]) -> Turn
 
 // Answers the lines that end in a piece of the input, as much of it at a time as the output has room for.
 fn answer(reading: Reading, piece: &[u8], output: &mut [u8]) -> Turn
-    requires { ⌜ 36 ≤ length (now output) ⌝ }
+    requires { ⌜ 48 ≤ length (now output) ⌝ }
     requires { ⌜ (length (now piece) ≤ reading .left) × (reading .left ≤ limit) ⌝ }
     ensures { λ r. ⌜ (length (now (piece .entry)) ≡ 0 → r .«is_failed» ≡ false) ⌝ }
     ensures { λ r. ⌜ (r .«is_failed» ≡ false → (r .count ≡ length (now (piece .entry))) × Answered reading (now (piece .entry)) (r .reading) (r .handed)) ⌝ }
@@ -147,9 +256,9 @@ fn answer(reading: Reading, piece: &[u8], output: &mut [u8]) -> Turn
 
 // Ends the input: answers a last line with bytes but no line feed.
 fn end(reading: Reading, output: &mut [u8]) -> Handed
-    requires { ⌜ 36 ≤ length (now output) ⌝ }
+    requires { ⌜ 48 ≤ length (now output) ⌝ }
     ensures { λ r. ⌜ r .bytes ≤ length (now (output .exit)) ⌝ }
-    ensures { λ r. ⌜ (r .«is_written» ≡ true → r .bytes ≡ length (answers (held (reading .begun)) (closing (held (reading .begun))))) ⌝ }
+    ensures { λ r. ⌜ (r .«is_written» ≡ true → r .bytes ≡ length (answers (reading .form) (held (reading .begun)) (closing (held (reading .begun))))) ⌝ }
 {
     let line_feed = [b'\n'];
     let fed = stream::finish(reading, output);
@@ -160,9 +269,9 @@ fn end(reading: Reading, output: &mut [u8]) -> Handed
 
 // Hands over the answers of the lines that end in some bytes, all of them and from the start.
 fn write(reading: Reading, bytes: &[u8], put: &[u8]) -> Handed
-    requires { ⌜ now put ≡ answers (held (reading .begun)) (now bytes) ⌝ }
+    requires { ⌜ now put ≡ answers (reading .form) (held (reading .begun)) (now bytes) ⌝ }
     ensures { λ r. ⌜ r .bytes ≤ length (now (put .entry)) ⌝ }
-    ensures { λ r. ⌜ (r .«is_written» ≡ true → r .bytes ≡ length (answers (held (reading .begun)) (now (bytes .entry)))) ⌝ }
+    ensures { λ r. ⌜ (r .«is_written» ≡ true → r .bytes ≡ length (answers (reading .form) (held (reading .begun)) (now (bytes .entry)))) ⌝ }
 {
     handed_over(put)
 }

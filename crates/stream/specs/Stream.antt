@@ -1,29 +1,43 @@
--- Document 01, 'The line program': the lines of an input, and what is printed for them.
+-- Document 01, 'The line program': the lines of an input, and what is printed for them; and document 02, wish 1: a GPX file.
 use mathlib.Core.Bool.{cond}
 use mathlib.Core.List.{List, [], _∷_, _++_, flatMap}
 use Prim.Native.Nat.{ℕ, _-_, _/_, min}
 use lib.Dec.{eqb}
-use lib.IntN.{ℤ}
 use lib.ListN.{length, take, replicate}
 use Rattle.whole.specs.Digits.{byteOf}
 use Rattle.kinds.specs.Answer.{Answer, gives, refused}
-use Rattle.tables.specs.Page.{Family}
-use Rattle.line.specs.Line.{space, lineFeed, answerLine, answerTo}
+use Rattle.kinds.specs.Bytes.{ascii}
+use Rattle.line.specs.Line.{lineFeed, textTo}
+use Rattle.line.specs.declared.Form.{Form}
+use Rattle.line.specs.declared.Form.the-variants.{Numbers, Waypoints}
 use Rattle.stream.specs.declared.Begun.{Begun}
 use Rattle.stream.specs.declared.Reading.{Reading}
 
--- ---- a line out
--- '`refused` and the number'
-unfoldable pub refusedLine : ℕ → List ℕ
-refusedLine number = 114 ∷ 101 ∷ 102 ∷ 117 ∷ 115 ∷ 101 ∷ 100 ∷ space ∷ byteOf number ∷ lineFeed ∷ []
+-- ---- a line out, in each form
+-- '`refused` and the number', and in a GPX file a comment with the number
+unfoldable pub refusedLine : Form → ℕ → List ℕ
+refusedLine Numbers number = ascii "refused " ++ byteOf number ∷ lineFeed ∷ []
+refusedLine Waypoints number = ascii "<!-- refused " ++ byteOf number ∷ ascii " -->" ++ lineFeed ∷ []
 
--- 'dLat, dLon and dH .., or N alone, or `refused` and the number'
-abbrev pub lineOut : Answer (Family ℤ) → List ℕ
-lineOut (gives values) = answerLine values
-lineOut (refused number) = refusedLine number
+-- 'dLat, dLon and dH .., or N alone, or `refused` and the number'; or the element, or the comment
+abbrev pub lineOut : Form → Answer (List ℕ) → List ℕ
+lineOut form (gives text) = text
+lineOut form (refused number) = refusedLine form number
 
-unfoldable pub printed : List ℕ → List ℕ
-printed line = lineOut (answerTo line)
+unfoldable pub printed : Form → List ℕ → List ℕ
+printed form line = lineOut form (textTo form line)
+
+-- what stands before the first line and after the last
+abbrev pub head : Form → List ℕ
+head Numbers = []
+head Waypoints =
+    ascii "<?xml version=\"1.0\" encoding=\"UTF-8\"?>" ++ lineFeed
+    ∷ ascii "<gpx version=\"1.1\" creator=\"Buckettin\" xmlns=\"http://www.topografix.com/GPX/1/1\">" ++ lineFeed
+    ∷ []
+
+abbrev pub foot : Form → List ℕ
+foot Numbers = []
+foot Waypoints = ascii "</gpx>" ++ lineFeed ∷ []
 
 -- ---- lines in
 -- lines, each with its line feed
@@ -52,8 +66,8 @@ lines input = ended [] input ++ last (begunAfter [] input)
 abbrev pub limit : ℕ
 limit = 100000000
 
-abbrev pub output : List ℕ → List ℕ
-output input = flatMap printed (lines (take limit input))
+abbrev pub output : Form → List ℕ → List ℕ
+output form input = head form ++ flatMap (printed form) (lines (take limit input)) ++ foot form
 
 -- ---- an input in pieces
 -- what is held of a line between two pieces, and how it is kept: 27 bytes, which are enough to refuse a longer line
@@ -64,24 +78,24 @@ unfoldable pub kept : List ℕ → Begun
 kept line = record { bytes = take 27 (line ++ replicate 27 0); count = min 27 (length line) }
 
 -- an input of which nothing is taken yet
-abbrev pub started : Reading
-started = record { begun = kept []; left = limit }
+abbrev pub started : Form → Reading
+started form = record { form = form; begun = kept []; left = limit }
 
 -- one of which some more bytes are taken
 unfoldable pub after : Reading → List ℕ → Reading
-after reading bytes = record { begun = kept (begunAfter (held (reading .begun)) bytes); left = reading .left - length bytes }
+after reading bytes = record { form = reading .form; begun = kept (begunAfter (held (reading .begun)) bytes); left = reading .left - length bytes }
 
 -- one of which no more may be taken
 abbrev pub atEnd : Reading → Reading
-atEnd reading = record { begun = reading .begun; left = 0 }
+atEnd reading = record { form = reading .form; begun = reading .begun; left = 0 }
 
--- how many bytes are taken of those that may be: for the first there must be room for 36 bytes, and for each one more for 10
+-- how many bytes are taken of those that may be: for the first there must be room for 48 bytes, and for each one more for 19
 unfoldable pub takenOf : List ℕ → ℕ → ℕ
-takenOf bytes room = min (length bytes) ((room - 26) / 10)
+takenOf bytes room = min (length bytes) ((room - 29) / 19)
 
 -- what is printed for the lines that end in some bytes
-unfoldable pub answers : List ℕ → List ℕ → List ℕ
-answers begun bytes = flatMap printed (ended begun bytes)
+unfoldable pub answers : Form → List ℕ → List ℕ → List ℕ
+answers form begun bytes = flatMap (printed form) (ended begun bytes)
 
 -- the line feed by which a line that is begun ends at the end of an input
 unfoldable pub closing : List ℕ → List ℕ
@@ -90,5 +104,6 @@ closing (byte ∷ rest) = lineFeed ∷ []
 
 -- what is printed in all for pieces that are fed one after the other, each of which is taken as far as it may be, and for the end
 abbrev pub fed : Reading → List (List ℕ) → List ℕ
-fed reading [] = answers (held (reading .begun)) (closing (held (reading .begun)))
-fed reading (piece ∷ pieces) = answers (held (reading .begun)) (take (reading .left) piece) ++ fed (after reading (take (reading .left) piece)) pieces
+fed reading [] = answers (reading .form) (held (reading .begun)) (closing (held (reading .begun)))
+fed reading (piece ∷ pieces) =
+    answers (reading .form) (held (reading .begun)) (take (reading .left) piece) ++ fed (after reading (take (reading .left) piece)) pieces

@@ -1,8 +1,10 @@
 // An input that comes in pieces, a line of it at a time: what is begun of a line is carried from piece to piece, and how many more
-// bytes may be taken.
+// bytes may be taken; and in which form its lines are answered.
 use kinds::WrittenAnswer;
-use line::ANSWER;
+use kinds::put;
+use line::Form;
 use line::LINE;
+use line::WAYPOINT;
 use numbers::four;
 use whole::least;
 ghost use mathlib.Core.Path.{_≡_};
@@ -10,7 +12,10 @@ ghost use mathlib.Core.Bool.{true};
 ghost use mathlib.Core.List.{[], _++_};
 ghost use Prim.Native.Nat.{_+_, _-_, _/_, _<_, _≤_};
 ghost use lib.ListN.{length, take, drop};
-ghost use Rattle.stream.specs.Stream.{refusedLine, printed, held, kept, started, after, atEnd, takenOf, answers, closing};
+ghost use Rattle.kinds.specs.Answer.{placed, counted, lent};
+ghost use Rattle.kinds.specs.Cases.{written};
+ghost use Rattle.line.specs.declared.Form.the-variants.{Numbers, Waypoints};
+ghost use Rattle.stream.specs.Stream.{refusedLine, printed, head, foot, held, kept, started, after, atEnd, takenOf, answers, closing};
 ghost use Rattle.stream.specs.Inside.{Clear, FirstFeed};
 
 // The first bytes of a line whose line feed has not come. Of a longer line 27 are kept, which are refused as it is.
@@ -19,8 +24,9 @@ pub struct Begun {
     count: usize,
 }
 
-// An input that is being read: the line that is begun, and how many more bytes of the input may be taken.
+// An input that is being read: the form of its answers, the line that is begun, and how many more bytes of it may be taken.
 pub struct Reading {
+    form: Form,
     begun: Begun,
     left: usize,
 }
@@ -38,8 +44,8 @@ const LIMIT: usize = 100_000_000;
 // the most bytes that are kept of a line: enough to see that it is too long
 const KEPT: usize = LINE + 1;
 
-// bytes of the line of a refusal
-const REFUSED: usize = 10;
+// the most bytes of the line of a refusal: of a comment
+const REFUSED: usize = 19;
 
 // bytes that are tested for a line feed together
 const WORD: usize = 8;
@@ -60,10 +66,11 @@ impl Begun {
 
 impl Reading {
     // Nothing of the input is taken yet.
-    pub fn start() -> Reading
-        ensures { λ r. ⌜ r ≡ started ⌝ }
+    pub fn start(form: Form) -> Reading
+        ensures { λ r. ⌜ r ≡ started form ⌝ }
     {
         Reading {
+            form,
             begun: Begun::none(),
             left: LIMIT,
         }
@@ -77,18 +84,44 @@ impl Reading {
     }
 }
 
-// Takes the next bytes of an input, as many as may be taken and out surely has room for the answers of: 36 bytes of room for the
-// first and 10 for each one more. Puts the answers of the lines that end in them at the start of out, a line each. The last clause
+// Puts what stands before the first line of a form's output at the start of out. Refused: 7 out is shorter.
+pub fn head(form: Form, out: &mut [u8]) -> WrittenAnswer
+    ensures { λ r. ⌜ written r ≡ counted (placed (head form) (length (now (out .entry)))) ⌝ }
+    ensures { λ r. ⌜ now (out .exit) ≡ lent (placed (head form) (length (now (out .entry)))) (now (out .entry)) ⌝ }
+{
+    match form {
+        Form::Numbers => put(b"", out),
+        Form::Waypoints => put(
+            b"<?xml version=\"1.0\" encoding=\"UTF-8\"?>\n<gpx version=\"1.1\" creator=\"Buckettin\" xmlns=\"http://www.topografix.com/GPX/1/1\">\n",
+            out,
+        ),
+    }
+}
+
+// And what stands after the last, likewise.
+pub fn foot(form: Form, out: &mut [u8]) -> WrittenAnswer
+    ensures { λ r. ⌜ written r ≡ counted (placed (foot form) (length (now (out .entry)))) ⌝ }
+    ensures { λ r. ⌜ now (out .exit) ≡ lent (placed (foot form) (length (now (out .entry)))) (now (out .entry)) ⌝ }
+{
+    match form {
+        Form::Numbers => put(b"", out),
+        Form::Waypoints => put(b"</gpx>\n", out),
+    }
+}
+
+// Takes the next bytes of an input, as many as may be taken and out surely has room for the answers of: 48 bytes of room for the
+// first and 19 for each one more. Puts the answers of the lines that end in them at the start of out, a line each. The last clause
 // follows from the others: it is what lending `&out[..put]` asks of a caller.
 pub fn feed(reading: Reading, bytes: &[u8], out: &mut [u8]) -> Fed
     ensures { λ r. ⌜ r .taken ≡ takenOf (take (reading .left) (now (bytes .entry))) (length (now (out .entry))) ⌝ }
     ensures { λ r. ⌜ r .reading ≡ after reading (take (r .taken) (now (bytes .entry))) ⌝ }
-    ensures { λ r. ⌜ r .put ≡ length (answers (held (reading .begun)) (take (r .taken) (now (bytes .entry)))) ⌝ }
-    ensures { λ r. ⌜ now (out .exit) ≡ answers (held (reading .begun)) (take (r .taken) (now (bytes .entry))) ++ drop (r .put) (now (out .entry)) ⌝ }
+    ensures { λ r. ⌜ r .put ≡ length (answers (reading .form) (held (reading .begun)) (take (r .taken) (now (bytes .entry)))) ⌝ }
+    ensures { λ r. ⌜ now (out .exit) ≡ answers (reading .form) (held (reading .begun)) (take (r .taken) (now (bytes .entry))) ++ drop (r .put) (now (out .entry)) ⌝ }
     ensures { λ r. ⌜ (r .put ≤ length (now (out .exit))) × (r .put ≡ length (take (r .put) (now (out .exit)))) ⌝ }
 {
     let taken = least(least(reading.left, bytes.len()), bytes_for(out.len()));
     let left = reading.left - taken;
+    let form = reading.form;
     let mut line = reading.begun;
     let mut from = 0;
     let mut put = 0;
@@ -97,6 +130,7 @@ pub fn feed(reading: Reading, bytes: &[u8], out: &mut [u8]) -> Fed
         if taken <= end {
             return Fed {
                 reading: Reading {
+                    form,
                     begun: extended(line, &bytes[from..taken]),
                     left,
                 },
@@ -104,29 +138,34 @@ pub fn feed(reading: Reading, bytes: &[u8], out: &mut [u8]) -> Fed
                 put,
             };
         }
-        put += ended(line, &bytes[from..end], &mut out[put..]);
+        put += ended(form, line, &bytes[from..end], &mut out[put..]);
         line.count = 0;
         from = end + 1;
     }
 }
 
-// Ends an input: a last line with bytes but no line feed is given one, and is answered where out has room for 36 bytes. What is
+// Ends an input: a last line with bytes but no line feed is given one, and is answered where out has room for 48 bytes. What is
 // taken is that line feed, and nothing more may be.
 pub fn finish(reading: Reading, out: &mut [u8]) -> Fed
     ensures { λ r. ⌜ r .taken ≡ takenOf (closing (held (reading .begun))) (length (now (out .entry))) ⌝ }
     ensures { λ r. ⌜ r .reading ≡ atEnd (after reading (take (r .taken) (closing (held (reading .begun))))) ⌝ }
-    ensures { λ r. ⌜ r .put ≡ length (answers (held (reading .begun)) (take (r .taken) (closing (held (reading .begun))))) ⌝ }
-    ensures { λ r. ⌜ now (out .exit) ≡ answers (held (reading .begun)) (take (r .taken) (closing (held (reading .begun)))) ++ drop (r .put) (now (out .entry)) ⌝ }
+    ensures { λ r. ⌜ r .put ≡ length (answers (reading .form) (held (reading .begun)) (take (r .taken) (closing (held (reading .begun))))) ⌝ }
+    ensures { λ r. ⌜ now (out .exit) ≡ answers (reading .form) (held (reading .begun)) (take (r .taken) (closing (held (reading .begun)))) ++ drop (r .put) (now (out .entry)) ⌝ }
     ensures { λ r. ⌜ (r .put ≤ length (now (out .exit))) × (r .put ≡ length (take (r .put) (now (out .exit)))) ⌝ }
 {
+    let form = reading.form;
     let begun = reading.begun;
     // one byte, where a line is begun
     let left = least(begun.count, 1);
-    let fed = feed(Reading { begun, left }, b"\n", out);
+    let fed = feed(Reading { form, begun, left }, b"\n", out);
     let last = fed.reading;
     let begun = last.begun;
     Fed {
-        reading: Reading { begun, left: 0 },
+        reading: Reading {
+            form,
+            begun,
+            left: 0,
+        },
         taken: fed.taken,
         put: fed.put,
     }
@@ -225,12 +264,12 @@ fn is_clear(bytes: &[u8], at: usize) -> bool
 
 // How many bytes may be taken for so much room.
 fn bytes_for(room: usize) -> usize
-    ensures { λ r. ⌜ r ≡ (room - 26) / 10 ⌝ }
+    ensures { λ r. ⌜ r ≡ (room - 29) / 19 ⌝ }
 {
-    if room < ANSWER {
+    if room < WAYPOINT {
         return 0;
     }
-    (room - (ANSWER - REFUSED)) / REFUSED
+    (room - (WAYPOINT - REFUSED)) / REFUSED
 }
 
 // The line that is begun once more bytes have come, with no line feed among them.
@@ -251,46 +290,57 @@ fn extended(begun: Begun, more: &[u8]) -> Begun
 }
 
 // Prints the line that the rest ends.
-fn ended(begun: Begun, rest: &[u8], out: &mut [u8]) -> usize
-    requires { ⌜ length (printed (held begun ++ now rest)) ≤ length (now out) ⌝ }
-    ensures { λ r. ⌜ r ≡ length (printed (held begun ++ now (rest .entry))) ⌝ }
-    ensures { λ r. ⌜ now (out .exit) ≡ printed (held begun ++ now (rest .entry)) ++ drop r (now (out .entry)) ⌝ }
+fn ended(form: Form, begun: Begun, rest: &[u8], out: &mut [u8]) -> usize
+    requires { ⌜ length (printed form (held begun ++ now rest)) ≤ length (now out) ⌝ }
+    ensures { λ r. ⌜ r ≡ length (printed form (held begun ++ now (rest .entry))) ⌝ }
+    ensures { λ r. ⌜ now (out .exit) ≡ printed form (held begun ++ now (rest .entry)) ++ drop r (now (out .entry)) ⌝ }
 {
     if begun.count == 0 {
-        return printed(rest, out);
+        return printed(form, rest, out);
     }
     let whole = extended(begun, rest);
     let bytes = whole.bytes;
     let count = whole.count;
-    printed(&bytes[..count], out)
+    printed(form, &bytes[..count], out)
 }
 
-// Prints a line's answer, or `refused` and the number.
-fn printed(line: &[u8], out: &mut [u8]) -> usize
-    requires { ⌜ length (printed (now line)) ≤ length (now out) ⌝ }
-    ensures { λ r. ⌜ r ≡ length (printed (now (line .entry))) ⌝ }
-    ensures { λ r. ⌜ now (out .exit) ≡ printed (now (line .entry)) ++ drop r (now (out .entry)) ⌝ }
+// Prints a line's answer, or that it is refused and the number.
+fn printed(form: Form, line: &[u8], out: &mut [u8]) -> usize
+    requires { ⌜ length (printed form (now line)) ≤ length (now out) ⌝ }
+    ensures { λ r. ⌜ r ≡ length (printed form (now (line .entry))) ⌝ }
+    ensures { λ r. ⌜ now (out .exit) ≡ printed form (now (line .entry)) ++ drop r (now (out .entry)) ⌝ }
 {
-    match line::line(line, out) {
+    match line::line_in(form, line, out) {
         WrittenAnswer::Gives(count) => count,
-        WrittenAnswer::Refused(why) => bytes::copy(&refused_line(why.number()), out),
+        WrittenAnswer::Refused(why) => refused(form, why.number(), out),
+    }
+}
+
+fn refused(form: Form, number: u8, out: &mut [u8]) -> usize
+    requires { ⌜ (number < 10) × (length (refusedLine form number) ≤ length (now out)) ⌝ }
+    ensures { λ r. ⌜ r ≡ length (refusedLine form number) ⌝ }
+    ensures { λ r. ⌜ now (out .exit) ≡ refusedLine form number ++ drop r (now (out .entry)) ⌝ }
+{
+    match form {
+        Form::Numbers => bytes::copy(&refused_line(number), out),
+        Form::Waypoints => bytes::copy(&comment(number), out),
     }
 }
 
 fn refused_line(number: u8) -> [u8; 10]
     requires { ⌜ number < 10 ⌝ }
-    ensures { λ r. ⌜ r ≡ refusedLine number ⌝ }
+    ensures { λ r. ⌜ r ≡ refusedLine Numbers number ⌝ }
 {
-    [
-        b'r',
-        b'e',
-        b'f',
-        b'u',
-        b's',
-        b'e',
-        b'd',
-        b' ',
-        b'0' + number,
-        b'\n',
-    ]
+    let mut line = *b"refused 0\n";
+    line[8] = b'0' + number;
+    line
+}
+
+fn comment(number: u8) -> [u8; REFUSED]
+    requires { ⌜ number < 10 ⌝ }
+    ensures { λ r. ⌜ r ≡ refusedLine Waypoints number ⌝ }
+{
+    let mut line = *b"<!-- refused 0 -->\n";
+    line[13] = b'0' + number;
+    line
 }

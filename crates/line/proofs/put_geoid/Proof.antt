@@ -2,9 +2,9 @@
 use mathlib.Core.Path.{sym, _∙_}
 use lib.ListN.{replicate}
 use Rattle.whole.proofs.Words.{of}
-use Rattle.datum.specs.Cases.{geoidSays}
 use Rattle.line.specs.Line.{lineFeed}
-use Rattle.line.proofs.Writing.{field, field-long, text-fits, text-counted, line-put, geoid-field}
+use Rattle.kinds.proofs.Writing.{text-fits, text-counted, text-put}
+use Rattle.line.proofs.Writing.{field, field-long, geoid-field}
 use borrow.Author.Needs.{needs}
 use Rattle.line.proofs.put_geoid.Statement.{statement}
 use Rattle.line.proofs.put_geoid.Tie as tie
@@ -34,7 +34,7 @@ returns : tie.Need-returns
 returns c =
     let f = c .before .before .before .before .before .before in
     let s = f .before .before .before .before in
-    line-put (field _ lineFeed) (replicate 36 0) _ (f .number-and .ensures .0 ∙ sym (field-long _ lineFeed)) (f .number-and .ensures .1) (geoidSays (s .args .height)) (s .args .out .now) (geoid-field (of (record { sfits = f .before .before .mm .ok }) .reads ∙ f .before .before .mm .ensures)) (c .before .before .put .ensures)
+    text-put (field _ lineFeed) (replicate 36 0) _ (f .number-and .ensures .0 ∙ sym (field-long _ lineFeed)) (f .number-and .ensures .1) (s .args .out .now) (geoid-field (of (record { sfits = f .before .before .mm .ok }) .reads ∙ f .before .before .mm .ensures)) (c .before .before .put .ensures)
 
 pub put-geoid-spec : {M : Type 1} → statement M
 put-geoid-spec =

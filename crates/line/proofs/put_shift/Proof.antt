@@ -3,7 +3,7 @@ use mathlib.Core.Path.{refl}
 use lib.ListN.{replicate}
 use Rattle.datum.specs.Cases.{shiftSays}
 use Rattle.line.specs.Line.{answerLine}
-use Rattle.line.proofs.Writing.{text-fits, text-counted, line-put}
+use Rattle.kinds.proofs.Writing.{text-fits, text-counted, text-put}
 use borrow.Author.Needs.{needs}
 use Rattle.line.proofs.put_shift.Statement.{statement}
 use Rattle.line.proofs.put_shift.Tie as tie
@@ -30,7 +30,7 @@ returns : tie.Need-returns
 returns c =
     let f = c .before .before .before .before .before .before in
     let s = f .before .before .before in
-    line-put _ (replicate 36 0) _ (f .shift-line .ensures .0) (f .shift-line .ensures .1) (shiftSays (s .args .shifts)) (s .args .out .now) refl (c .before .before .put .ensures)
+    text-put (answerLine (shiftSays (s .args .shifts))) (replicate 36 0) _ (f .shift-line .ensures .0) (f .shift-line .ensures .1) (s .args .out .now) refl (c .before .before .put .ensures)
 
 pub put-shift-spec : {M : Type 1} → statement M
 put-shift-spec =

@@ -33,7 +33,7 @@ write-requires : tie.Need-write-requires
 write-requires c κs =
     let d = c .before .before .before .before in
     let p = d .finish .ensures in
-    last-put (held (d .before .before .before .args .reading .begun)) _ _ (p .0) (d .before .before .before .pre) _ _ _ (p .1 .1 .0) (p .1 .1 .1 .0)
+    last-put (d .before .before .before .args .reading .form) (held (d .before .before .before .args .reading .begun)) _ _ (p .0) (d .before .before .before .pre) _ _ _ (p .1 .1 .0) (p .1 .1 .1 .0)
 
 same-length : tie.Need-same-length
 same-length c = search needs
@@ -43,7 +43,7 @@ returns c =
     let d = c .before .before .before .before .before in
     let s = d .before .before .before in
     let p = d .finish .ensures in
-    (omega (arith, c .write .ensures .0, p .1 .1 .1 .1 .0, p .1 .1 .1 .1 .1), λ e. c .write .ensures .1 e ∙ ap (λ (l : List ℕ). length (answers (held (s .args .reading .begun)) l)) (last-fed _ _ _ (p .0) (s .pre) .1))
+    (omega (arith, c .write .ensures .0, p .1 .1 .1 .1 .0, p .1 .1 .1 .1 .1), λ e. c .write .ensures .1 e ∙ ap (λ (l : List ℕ). length (answers (s .args .reading .form) (held (s .args .reading .begun)) l)) (last-fed _ _ _ (p .0) (s .pre) .1))
 
 pub end-spec : {M : Type 1} → statement M
 end-spec =

@@ -10,10 +10,10 @@ use Rattle.stream.proofs.feed.Statement.{statement}
 use Rattle.stream.proofs.feed.Tie as tie
 
 abbrev Inv-loop : tie.InvT-loop
-Inv-loop bytes out₀ taken left line₀ from₀ put₀ out line from put = Good bytes (held line₀) out₀ taken out (held line) from put
+Inv-loop bytes out₀ taken left form line₀ from₀ put₀ out line from put = Good form bytes (held line₀) out₀ taken out (held line) from put
 
 abbrev μ-loop : tie.MeasureT-loop
-μ-loop bytes out₀ taken left line₀ from₀ put₀ out line from put = taken - from
+μ-loop bytes out₀ taken left form line₀ from₀ put₀ out line from put = taken - from
 
 least-requires : tie.Need-least-requires Inv-loop μ-loop
 least-requires c κs = search needs
@@ -35,7 +35,7 @@ sub-left : tie.Need-sub-left Inv-loop μ-loop
 sub-left c = no-more _ _ _ (is-taken (c .before)) .0
 
 loop-holds : tie.Need-loop-holds Inv-loop μ-loop
-loop-holds c = let d = c .before .before in start _ _ _ (no-more (s d .args .reading .left) _ _ (is-taken d) .1)
+loop-holds c = let d = c .before .before in start _ _ _ _ (no-more (s d .args .reading .left) _ _ (is-taken d) .1)
 
 line-feed-requires : tie.Need-line-feed-requires Inv-loop μ-loop
 line-feed-requires c κs = (c .loop .inv .within, taken-within (c .loop .inv))

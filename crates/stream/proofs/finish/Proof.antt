@@ -20,7 +20,7 @@ same-length c = search needs
 returns : tie.Need-returns
 returns c =
     let s = c .before .before .before .before .before .before .before .before .before .before in
-    closed (s .args .reading) (s .args .out .now) _ _ (array-long (s .args .reading .begun .bytes) (s .good .0 .1 .1 .0 .1 .1 .0 .1 .0 .1)) (c .before .before .before .before .before .before .before .least .ensures) (c .before .before .before .before .feed .ensures)
+    closed (s .args .reading) (s .args .out .now) _ _ (array-long (s .args .reading .begun .bytes) (s .good .0 .1 .1 .1 .0 .1 .1 .0 .1 .0 .1)) (c .before .before .before .before .before .before .before .least .ensures) (c .before .before .before .before .feed .ensures)
 
 pub finish-spec : {M : Type 1} → statement M
 finish-spec = tie.close (tie.spec least-requires slice-aggregate-feed feed-requires same-length returns)

@@ -4,12 +4,15 @@ use Rattle.stream.specs.Stream.{refusedLine}
 use Rattle.stream.proofs.refused_line.Statement.{statement}
 use Rattle.stream.proofs.refused_line.Tie as tie
 
-add-t2 : tie.Need-add-t2
-add-t2 c = search needs
+add-line : tie.Need-add-line
+add-line c = search needs
+
+array-write-line : tie.Need-array-write-line
+array-write-line c = search needs
 
 returns : tie.Need-returns
 unfolding refusedLine
 returns c = search needs
 
 pub refused-line-spec : {M : Type 1} → statement M
-refused-line-spec = tie.close (tie.spec add-t2 returns)
+refused-line-spec = tie.close (tie.spec add-line array-write-line returns)

@@ -8,7 +8,7 @@ none-requires : tie.Need-none-requires
 none-requires c κs = search needs
 
 returns : tie.Need-returns
-returns c = λ i. record { begun = c .none .ensures i; left = limit }
+returns c = λ i. record { form = c .before .args .form; begun = c .none .ensures i; left = limit }
 
 pub start-spec : {M : Type 1} → statement M
 start-spec = tie.close (tie.spec none-requires returns)
