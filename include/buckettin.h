@@ -47,8 +47,8 @@ extern "C" {
 
 /* 1,000,000 times the first number of the version, 1,000 times the second, and the third. While the first is 0, a call may
    still change from one version to the next. The archive does not carry it: keep header and archive together. */
-#define BUCKETTIN_VERSION 1000
-#define BUCKETTIN_VERSION_TEXT "0.1.0"
+#define BUCKETTIN_VERSION 2000
+#define BUCKETTIN_VERSION_TEXT "0.2.0"
 
 /* gcc and clang warn where the answer of a call is dropped. They do not warn where it is kept and refusal is not tested. */
 #ifdef __GNUC__
@@ -86,6 +86,7 @@ enum buckettin_sizes {
     BUCKETTIN_LONGITUDE_BYTES = 12,
     BUCKETTIN_LINE_BYTES = 26,
     BUCKETTIN_LINE_ROOM = 36,       /* enough for the answer to any line */
+    BUCKETTIN_WAYPOINT_ROOM = 47,   /* enough for any waypoint */
     BUCKETTIN_RESULT_ROOM = 6506    /* enough for the result of any sheet */
 };
 
@@ -232,6 +233,17 @@ buckettin_written_t buckettin_sheet(int64_t unit_serial, const uint8_t *sheet, s
    buckettin_line((const uint8_t *)"1 350000.000N 0330000.000E", BUCKETTIN_LINE_BYTES, out, BUCKETTIN_LINE_ROOM) is {0, 22},
    and out starts with "-384288 -110294 24430\n". */
 buckettin_written_t buckettin_line(const uint8_t *line, size_t length, uint8_t *out, size_t room) BUCKETTIN_MUST_USE;
+
+/* ---- a waypoint of a GPX 1.1 file
+
+   Writes the WGS 84 position of a point of codes 1 to 4 as a waypoint at the start of out: the element alone, at most 47
+   bytes, with no line feed, and leaves the rest of out. lat and lon are the angles on WGS 84 in decimal degrees, rounded to
+   the nearest billionth, halves away from zero, with nine places. lon goes from -180 up to but not 180: 160° W is -160. A
+   waypoint has no height. Refused, in this order: 4, 5, 3, 6, 7 where room is below what the element needs.
+   buckettin_waypoint(BUCKETTIN_CYPRUS, 126000000, 118800000, out, BUCKETTIN_WAYPOINT_ROOM) is {0, 44}, and out starts with
+   "<wpt lat=\"34.998932533\" lon=\"32.999693628\"/>". examples/waypoint.c writes a whole file. */
+buckettin_written_t buckettin_waypoint(int64_t code, int64_t latitude_ms, int64_t longitude_ms,
+                                       uint8_t *out, size_t room) BUCKETTIN_MUST_USE;
 
 #ifdef __cplusplus
 }

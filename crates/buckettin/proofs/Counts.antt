@@ -16,6 +16,8 @@ use Rattle.sheet.proofs.Demands as sheet
 use Rattle.line.specs.Line.{lineOf}
 use Rattle.line.proofs.Printing.{answer-line-short}
 use Rattle.line.proofs.Demands as line
+use Rattle.waypoint.specs.Waypoint.{waypointOf}
+use Rattle.waypoint.proofs.Demands as waypoint
 use Rattle.buckettin.specs.Fields.{valueOr}
 
 -- a count in 4 bytes, whatever the answer
@@ -40,3 +42,6 @@ work-small unit bytes room = small (workOf unit bytes room) (λ result h.
 
 pub line-small : (bytes : List ℕ) (room : ℕ) → Small (counted (lineOf bytes room))
 line-small bytes room = small (lineOf bytes room) (λ t h. subst (λ (l : List ℕ). length l < 4294967296) (line.answered-where bytes room t .0 h .1 .1) (lt-of-le-of-lt (answer-line-short _) (omega arith)))
+
+pub waypoint-small : (code north east : ℤ) (room : ℕ) → Small (counted (waypointOf code north east room))
+waypoint-small code north east room = small (waypointOf code north east room) (λ bytes h. lt-of-le-of-lt (waypoint.bytes-at-most code north east room bytes h) (omega arith))

@@ -12,6 +12,7 @@ use Rattle.whole.specs.Round.{roundDiv}
 use Rattle.whole.specs.Places.{fromPlaces, inPlaces}
 use Rattle.whole.specs.Digits.{allDigits, fromDigits, digitOf, digits}
 use Rattle.kinds.specs.Answer.{Answer, gives, refused, refusalOf, counted, lent}
+use Rattle.kinds.specs.Bytes.{ascii}
 use Rattle.kinds.specs.Kinds.{within}
 use Rattle.kinds.proofs.Answers.{told, is, is-or}
 use Rattle.position.specs.Text.{Coordinate, latitude, longitude, textLength, isAngle, inSixties, angle, spelled, read, write}
@@ -31,9 +32,11 @@ use Rattle.numbers.specs.Numbers.{number, inBytes}
 use Rattle.layout.specs.Sheet.{serial, datums, codes, count, body, points, pieces, isUnit, rise, isListed}
 use Rattle.sheet.specs.Result.{resultOf, workOf}
 use Rattle.sheet.proofs.Demands as sheet
-use Rattle.decimal.specs.Decimal.{printedNumber, decimal, unpadded}
+use Rattle.decimal.specs.Decimal.{printedNumber, decimal, unpadded, billionths, ninePlaces}
 use Rattle.line.specs.Line.{answerLine, lineOf}
 use Rattle.line.proofs.Demands as line
+use Rattle.waypoint.specs.Waypoint.{degrees, element, waypointOf}
+use Rattle.waypoint.proofs.Demands as waypoint
 use Rattle.buckettin.specs.Fields.{valueOr, shiftFields, geoidFields, readFields, writtenFields}
 use Rattle.buckettin.specs.declared.Shift.{Shift}
 use Rattle.buckettin.specs.declared.Geoid.{Geoid}
@@ -134,6 +137,12 @@ line-told bytes room h =
     (λ n e. is-or 1 (lit< tt) (is-or 2 (lit< tt) (is-or 3 (lit< tt) (is-or 4 (lit< tt) (is-or 6 (lit< tt) (is 7 (lit< tt)))))) (line.given-one-of bytes room n e))
     h
 
+pub waypoint-told : (code north east : ℤ) (room : ℕ) → Told (waypointOf code north east room)
+waypoint-told code north east room h =
+    told-written (waypointOf code north east room)
+    (λ n e. is-or 4 (lit< tt) (is-or 5 (lit< tt) (is-or 3 (lit< tt) (is-or 6 (lit< tt) (is 7 (lit< tt))))) (waypoint.given-one-of code north east room n e))
+    h
+
 -- ---- texts
 module _ (k : Coordinate) where
   pub read-told : (text : List ℕ) → readFields (read k text) .refusal ≡ 0 → read k text ≡ gives (readFields (read k text) .ms)
@@ -179,7 +188,8 @@ pub record Examples : Type 0 where
   pub sheet-worked : workOf (pos 7) (0 ∷ 0 ∷ 0 ∷ 7 ∷ 0 ∷ 0 ∷ 0 ∷ []) 6 ≡ gives (0 ∷ 0 ∷ 0 ∷ 7 ∷ 0 ∷ 0 ∷ [])
   pub sheet-refused : writtenFields (counted (workOf (pos 8) (0 ∷ 0 ∷ 0 ∷ 7 ∷ 0 ∷ 0 ∷ 0 ∷ []) 6)) ≡ record { refusal = 8; written = 0 }
   pub line-answered : lineOf (49 ∷ 32 ∷ 51 ∷ 53 ∷ 48 ∷ 48 ∷ 48 ∷ 48 ∷ 46 ∷ 48 ∷ 48 ∷ 48 ∷ 78 ∷ 32 ∷ 48 ∷ 51 ∷ 51 ∷ 48 ∷ 48 ∷ 48 ∷ 48 ∷ 46 ∷ 48 ∷ 48 ∷ 48 ∷ 69 ∷ []) 36 ≡ gives (45 ∷ 51 ∷ 56 ∷ 52 ∷ 50 ∷ 56 ∷ 56 ∷ 32 ∷ 45 ∷ 49 ∷ 49 ∷ 48 ∷ 50 ∷ 57 ∷ 52 ∷ 32 ∷ 50 ∷ 52 ∷ 52 ∷ 51 ∷ 48 ∷ 10 ∷ [])
+  pub waypoint-written : waypointOf (pos 1) (pos 126000000) (pos 118800000) 47 ≡ gives (ascii "<wpt lat=\"34.998932533\" lon=\"32.999693628\"/>")
 
 pub examples : Examples
-unfolding roundDiv power powersOf sum read write isAngle inSixties angle allDigits fromDigits fromPlaces digitOf spelled digits inPlaces number inBytes serial datums codes count body points pieces isUnit rise isListed resultOf flatMap printedNumber decimal unpadded answerLine
-examples = record { shift-example = refl; geoid-example = refl; refusal-example = refl; read-latitude = refl; read-longitude = refl; write-latitude = refl; write-longitude = refl; sheet-worked = refl; sheet-refused = refl; line-answered = refl }
+unfolding roundDiv power powersOf sum read write isAngle inSixties angle allDigits fromDigits fromPlaces digitOf spelled digits inPlaces number inBytes serial datums codes count body points pieces isUnit rise isListed resultOf flatMap printedNumber decimal unpadded answerLine element degrees ninePlaces billionths
+examples = record { shift-example = refl; geoid-example = refl; refusal-example = refl; read-latitude = refl; read-longitude = refl; write-latitude = refl; write-longitude = refl; sheet-worked = refl; sheet-refused = refl; line-answered = refl; waypoint-written = refl }

@@ -16,6 +16,7 @@ ghost use Rattle.datum.specs.Point.{shiftOf, geoidOf, firstOf, secondOf, thirdO
 ghost use Rattle.floating.specs.Floats.{floatingOf, floatZero};
 ghost use Rattle.sheet.specs.Result.{workOf};
 ghost use Rattle.line.specs.Line.{lineOf};
+ghost use Rattle.waypoint.specs.Waypoint.{waypointOf};
 ghost use Rattle.buckettin.specs.Fields.{valueOr, shiftFields, geoidFields, readFields, writtenFields};
 
 #[repr(C)]
@@ -184,6 +185,19 @@ pub extern "C" fn buckettin_line(line: &[u8], out: &mut [u8]) -> Written
     ensures { λ r. ⌜ now (out .exit) ≡ lent (lineOf (now (line .entry)) (length (now (out .entry)))) (now (out .entry)) ⌝ }
 {
     in_numbers(line::line(line, out))
+}
+
+#[no_mangle]
+pub extern "C" fn buckettin_waypoint(
+    code: i64,
+    latitude_ms: i64,
+    longitude_ms: i64,
+    out: &mut [u8],
+) -> Written
+    ensures { λ r. ⌜ r ≡ writtenFields (counted (waypointOf code «latitude_ms» «longitude_ms» (length (now (out .entry))))) ⌝ }
+    ensures { λ r. ⌜ now (out .exit) ≡ lent (waypointOf code «latitude_ms» «longitude_ms» (length (now (out .entry)))) (now (out .entry)) ⌝ }
+{
+    in_numbers(waypoint::waypoint(code, latitude_ms, longitude_ms, out))
 }
 
 // How many bytes were written, or why none.

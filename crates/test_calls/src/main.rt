@@ -79,6 +79,13 @@ fn sheet(unit: i64, out: &mut [u8]) {
     test_show::bytes(out);
 }
 
+fn waypoint(code: i64, latitude: i64, longitude: i64, out: &mut [u8]) {
+    let room = test_ask::room(out);
+    let written = buckettin::buckettin_waypoint(code, latitude, longitude, &mut out[..room]);
+    said_written(written);
+    test_show::text(out);
+}
+
 fn answer(letter: u8) {
     match letter {
         b'=' => test_ask::label(),
@@ -88,6 +95,12 @@ fn answer(letter: u8) {
         b'o' => longitude(test_ask::number(), &mut [b'#'; 14]),
         b'l' => line(&mut [b'#'; 24]),
         b's' => sheet(test_ask::number(), &mut [b'#'; 20]),
+        b'w' => waypoint(
+            test_ask::number(),
+            test_ask::number(),
+            test_ask::number(),
+            &mut [b'#'; 50],
+        ),
         _ => {}
     }
 }
