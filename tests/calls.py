@@ -1,6 +1,6 @@
 #!/usr/bin/env python3
 """What the program `test_calls` is asked, every exported call as C would see it, and what it must print, worked out from the
-papers by tests/pages.py, tests/sheets.py and tests/lines.py.
+papers by tests/pages.py, tests/sheets.py, tests/lines.py and tests/waypoints.py.
 
     python3 tests/calls.py --write   makes crates/test_calls/stdin and crates/test_calls/stdout
     python3 tests/calls.py --check   holds these files, to which the gate holds the program, to what is worked out
@@ -9,6 +9,7 @@ import lines
 import pages
 import program
 import sheets
+import waypoints
 from pages import LATITUDE, LONGITUDE, ms
 from program import count, number, spaced
 
@@ -20,6 +21,11 @@ TEXTS = ['350000.000N', '0330000.000E', '350060.000S', '3600000.000E', '350000,0
 NUMBERS = [(ms(35), 12, 14), (ms(35), 10, 11), (-ms(35), 11, 12), (ms(360), 11, 12)]
 LINES = [(b'1 350000.000N 0330000.000E', 24), (b'1 350000.000N 0330000.000E', 21), (b'4 350000.000N 0330000.000E', 24)]
 SHEETS = [(7, 20), (8, 20), (7, 18)]
+WAYPOINTS = [
+    (1, ms(35), ms(33), 47), (1, ms(35), ms(33), 44), (1, ms(35), ms(33), 43), (1, ms(35), ms(33), 0), (2, ms(10), ms(8), 50),
+    (3, ms(62), ms(208), 50), (4, ms(25), ms(51), 50), (4, ms(35), ms(33), 50), (5, ms(7), ms(80), 50), (6, ms(23), ms(57), 50),
+    (1, ms(90) + 1, ms(33), 50), (7, ms(35), ms(33), 50), (7, ms(90) + 1, ms(33), 0),
+]
 
 
 def fields(answer, count):
@@ -85,9 +91,21 @@ def sheet(unit, room):
     return f'sheet for {unit} into {room}:', question, (f' 0 {n}' if verb == 'wrote' else f' {n} 0') + f' {out.hex()}'
 
 
+def waypoint(code, latitude, longitude, room):
+    place = code, latitude, longitude
+    answer, out = waypoints.waypoint(*place), '#' * 50
+    if answer.startswith('refused'):
+        told = f'{fields(answer, 1)} {out}'
+    else:
+        told = f'0 {len(answer)} {answer}{out[len(answer):]}' if len(answer) <= room else f'7 0 {out}'
+    question = b'w' + b''.join(map(number, place)) + count(room)
+    return f'waypoint{spaced(place)} into {room}:', question, f' {told}'
+
+
 def cases():
     found = [point(place) for place in POINTS] + [text(given) for given in TEXTS] + [number_into(*given) for given in NUMBERS]
-    return found + [line(*given) for given in LINES] + [sheet(*given) for given in SHEETS]
+    found += [line(*given) for given in LINES] + [sheet(*given) for given in SHEETS]
+    return found + [waypoint(*given) for given in WAYPOINTS]
 
 
 if __name__ == '__main__':

@@ -3,7 +3,7 @@
 tests/examples.py, where rt staticlib buckettin has been run.
 
 Each is built as C99 and as C++, with every warning an error. What they must print is document 01's, of two centres and of points
-outside, and what the comment of each promises.
+outside, for waypoints what tests/waypoints.py works out, and what the comment of each promises.
 """
 import os
 import re
@@ -13,6 +13,19 @@ import sys
 import tempfile
 
 import program
+import waypoints
+from pages import LATITUDE, LONGITUDE, read
+
+
+def file_of(*texts):
+    """The file of points of code 1, given by their texts."""
+    angles = [int(read(form, text.encode())[1:-1]) for form, text in zip([LATITUDE, LONGITUDE] * 2, texts)]
+    elements = [waypoints.waypoint(1, *angles[k:k + 2]) for k in (0, 2)]
+    return waypoints.HEAD.replace('Buckettin', 'waypoint') + ''.join(f'{element}\n' for element in elements) + waypoints.FOOT
+
+
+USAGE = ('waypoint CODE LATITUDE LONGITUDE LATITUDE LONGITUDE, as: '
+         'waypoint 1 350000.000N 0330000.000E 344323.316N 0322806.026E\n')
 
 # of each program the words, standard output and standard error, and the exit status; the first is that of its comment
 RUNS = {
@@ -38,6 +51,20 @@ RUNS = {
         ('7x 350000.000N 0330000.000E', '', "refused 8: the sheet's serial is not zero and not the unit's\n", 1),
         ('7 350000.000N 0330000.000W', '', 'refused 2: a byte of a text or line is not of its kind\n', 1),
         ('', '', 'sheet UNIT LATITUDE LONGITUDE, as: sheet 7 350000.000N 0330000.000E\n', 2),
+    ],
+    'waypoint': [
+        ('1 350000.000N 0330000.000E 344323.316N 0322806.026E',
+         file_of('350000.000N', '0330000.000E', '344323.316N', '0322806.026E'), '', 0),
+        ('1 344323.316N 0322806.026E 350000.000N 0330000.000E',
+         file_of('344323.316N', '0322806.026E', '350000.000N', '0330000.000E'), '', 0),
+        ('4 350000.000N 0330000.000E 350000.000N 0330000.000E', '', "refused 6: the point is outside its datum's area\n", 1),
+        ('1 350000.000N 0330000.000E 350000.000N 0350000.000E', '', "refused 6: the point is outside its datum's area\n", 1),
+        ('6 230000.000N 0570000.000E 230000.000N 0570000.000E', '',
+         'refused 5: a shift is asked of code 5 or 6, or a geoid height of code 1 to 4\n', 1),
+        ('0 350000.000N 0330000.000E 350000.000N 0330000.000E', '', 'refused 4: the code is not 1 to 6\n', 1),
+        ('1 350000.000N 0330000.000E 900000.001N 0330000.000E', '',
+         'refused 3: a latitude, longitude, minute or second is out of range\n', 1),
+        ('1 350000.000N 0330000.000E', '', USAGE, 2),
     ],
 }
 # the words of the compiler; g++ itself would link a library that Debian's x86-64 files for other machines lack

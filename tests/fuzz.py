@@ -21,7 +21,8 @@ import program
 CLANG = ['clang-14', '-g', '-O1', '-fsanitize=fuzzer,address,undefined', '-fno-sanitize-recover=all', '-rtlib=compiler-rt', '-Wall',
          '-Wextra', '-Werror', '-I', hostile.HEADERS]
 # In the order of tests/hostile/call.h.
-SHIFT, GEOID, FIRST, SECOND, THIRD, REFUSAL, READ_LATITUDE, READ_LONGITUDE, WRITE_LATITUDE, WRITE_LONGITUDE, SHEET, LINE = range(12)
+(SHIFT, GEOID, FIRST, SECOND, THIRD, REFUSAL, READ_LATITUDE, READ_LONGITUDE, WRITE_LATITUDE, WRITE_LONGITUDE, SHEET, LINE,
+ WAYPOINT) = range(13)
 LONGEST = 600                  # bytes of an input: a sheet of 60 points and more
 CENTRES = {1: (35, 33), 2: (10, 8), 3: (62, 208), 4: (25, 51), 5: (7, 80), 6: (23, 57)}
 WORDS = [b'N', b'S', b'E', b'.', b' ', b'000000.000S', b'900000.000N', b'3595959.999E', struct.pack('>i', 324_000_000),
@@ -48,6 +49,8 @@ def seeds():
         numbers = (code, latitude * 3_600_000, longitude * 3_600_000)
         for function in (SHIFT if code < 5 else GEOID, FIRST, SECOND, THIRD, REFUSAL):
             yield call(function, numbers=numbers)
+        if code < 5:
+            yield call(WAYPOINT, 47, numbers)
         texts = f'{latitude:02}0000.000N', f'{longitude:03}0000.000E'
         yield call(READ_LATITUDE, given=texts[0].encode())
         yield call(READ_LONGITUDE, given=texts[1].encode())

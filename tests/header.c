@@ -53,7 +53,7 @@ int main(void)
 {
     static const uint8_t sheet[] = {0,0,0,7, 0, 0,0};
     static const uint32_t none[] = {BUCKETTIN_SHEET + 1, 255, 256, INT32_MAX, UINT32_MAX};
-    uint8_t out[BUCKETTIN_LINE_ROOM], result[6];
+    uint8_t out[BUCKETTIN_WAYPOINT_ROOM], result[6];
     memset(out, '#', sizeof out);
     memset(result, '#', sizeof result);
 #include "examples.h"

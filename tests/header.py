@@ -4,8 +4,9 @@
 No proof sees the header. Its declarations are compared with the exported functions and their structs in
 crates/buckettin/src/lib.rt (names, order, parameters, widths) and with the symbols of the archive; its names of codes and of
 refusals with the definitions; its table of datums with tests/pages.py and docs/document-000.txt, and its orders of refusals with
-document 01's; a compiler must warn of each answer that is dropped; and a program in C that is built from it, tests/header.c,
-asserts the layout of each struct and makes each call that a comment of the header has as an example, as it stands there.
+those of documents 01 and 02; a compiler must warn of each answer that is dropped; and a program in C that is built from it,
+tests/header.c, asserts the layout of each struct and makes each call that a comment of the header has as an example, as it stands
+there.
 """
 import os
 import re
@@ -18,6 +19,7 @@ import lines
 import pages
 import program
 import sheets
+import waypoints
 from program import content
 
 HEADER = 'include/buckettin.h'
@@ -127,10 +129,11 @@ def not_understood(header, names):
     return wrong + ([] if rows == len(areas(header)) else ['a row of the areas is not understood'])
 
 
-# Document 01's orders.
+# The orders of documents 01 and 02.
 ORDERS = {
     'shift': '4, 5, 3, 6', 'geoid': '4, 5, 3, 6', 'refusal': '4, 3, 6', 'read_latitude': '1, 2, 3', 'read_longitude': '1, 2, 3',
     'write_latitude': '3, 7', 'write_longitude': '3, 7', 'sheet': '1, 9, 8, 1, 9, 1, 9, 1, 9, 1, 9, 7', 'line': '1, 2, 3, 4, 6, 7',
+    'waypoint': '4, 5, 3, 6, 7',
 }
 
 
@@ -173,7 +176,7 @@ def words(header):
 
 EXAMPLE = re.compile(
     r'(buckettin_(\w+)\((?:[^()]|\([^()]*\))*\)) is (\{[^}]*\}|-?[0-9.]+[0-9]|[0-9])'
-    r'(?:, and (out|result) starts with ("[^"]*"|\{[^}]*\}))?')
+    r'(?:, and (out|result) starts with ("(?:[^"\\]|\\.)*"|\{[^}]*\}))?')
 
 
 def examples(header):
@@ -216,6 +219,7 @@ def figures():
     (least_latitude, largest_latitude), (least, largest) = pages.KINDS[:2]
     north, east = (len(pages.spelled(form, 0)) for form in (pages.LATITUDE, pages.LONGITUDE))
     result = len(sheets.result(1, sheets.sheet(1, [1], [(1, 0, 0)] * POINTS)))
+    waypoint = len(waypoints.element(pages.KINDS[2][0], 180 * waypoints.DEGREE))
     ellipsoids = {code: document_000.datum(code)[2] for code in pages.AREAS}
     return [
         f'a degree is {pages.DEGREE:,}.', f'BUCKETTIN_DEGREE_MS = {pages.DEGREE},',
@@ -223,6 +227,7 @@ def figures():
         f'the ellipsoid {ellipsoids[5]} (code 5) or {ellipsoids[6]} (code 6)',
         f'BUCKETTIN_LATITUDE_BYTES = {north},', f'BUCKETTIN_LONGITUDE_BYTES = {east},', f'where room is below {north}.',
         f'where room is below {east}.', f'BUCKETTIN_LINE_BYTES = {len(lines.GOOD)},', f'a line of {len(lines.GOOD)} bytes',
+        f'BUCKETTIN_WAYPOINT_ROOM = {waypoint},', f'the element alone, at most {waypoint} bytes',
         f'BUCKETTIN_RESULT_ROOM = {result}', f'at most {result:,}', f'count of points, at most {POINTS}',
     ]
 

@@ -13,9 +13,9 @@ import tempfile
 import program
 
 HEADERS = 'include'
-CASES = 240_000
+CASES = 260_000
 SEED = 1989
-FEW = 60_000                   # cases of a self-test
+FEW = 65_000                   # cases of a self-test
 
 
 def source(name):
@@ -84,6 +84,23 @@ SLIPS = [
      'i + 1 < sheet->count; i++) {\n        if (sheet->datums == 0', 'different'),
     ('501 points', 'MOST_POINTS = 500', 'MOST_POINTS = 501', 'different'),
     ('a sheet\'s buffer tested a byte short', 'if (room < needed)', 'if (room + 1 < needed)', 'signal'),
+    ('a waypoint\'s longitude all the way east', 'degrees >= (int64_t)180 * BILLION', 'degrees >= (int64_t)360 * BILLION',
+     'different'),
+    ('a waypoint of the local position', 'degrees_of(latitude_ms, values.of[0])', 'degrees_of(latitude_ms, 0)', 'different'),
+    ('a waypoint by the shift of longitude', 'degrees_of(latitude_ms, values.of[0])', 'degrees_of(latitude_ms, values.of[1])',
+     'different'),
+    ('decimal degrees cut', '(int64_t)rounded((whole)(UNITS_OF_MS * ms + shift) * BILLION, UNITS_OF_DEGREE)',
+     '(int64_t)((whole)(UNITS_OF_MS * ms + shift) * BILLION / UNITS_OF_DEGREE)', 'different'),
+    ('the last digit of a shift lost', '(UNITS_OF_MS * ms + shift) * BILLION, UNITS_OF_DEGREE',
+     '(UNITS_OF_MS * ms + shift / 10 * 10) * BILLION, UNITS_OF_DEGREE', 'different'),
+    ('places without their zeros', '%s%d.%09d', '%s%d.%d', 'different'),
+    ('a degree with two digits', '%s%d.%09d', '%s%02d.%09d', 'different'),
+    ('a line feed after a waypoint', '\\" lon=\\"%s\\"/>"', '\\" lon=\\"%s\\"/>\\n"', 'different'),
+    ('a waypoint\'s room tested first', 'if (refusal != ANSWERED) return refused(refusal);\n    struct values values',
+     'if (room < 43) return refused(BUFFER_SHORT);\n    if (refusal != ANSWERED) return refused(refusal);\n    struct values values',
+     'different'),
+    ('room for the longest waypoint asked', 'int count = snprintf(text, sizeof text, "<wpt',
+     'if (room < 47) return refused(BUFFER_SHORT);\n    int count = snprintf(text, sizeof text, "<wpt', 'different'),
 ]
 
 

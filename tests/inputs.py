@@ -1,9 +1,10 @@
 #!/usr/bin/env python3
 """The program `lines` on whole inputs, which is run and not proved: python3 tests/inputs.py, where rt check lines has been run.
 
-What it must print is worked out by tests/lines.py. The checks are of what lies outside the proofs: how an input comes in
-pieces and ends, how much of it is read, outputs and inputs that fail, stack and heap; and of the script ./lines, what it says, its
-exit status, and what it does where there is no toolchain. Prints a line for each, and ends with an error where one fails.
+What it must print is worked out by tests/lines.py, and with --gpx by tests/waypoints.py. The checks are of what lies outside the
+proofs: how an input comes in pieces and ends, how much of it is read, outputs and inputs that fail, arguments, stack and heap; and
+of the script ./lines, what it says, its exit status, and what it does where there is no toolchain. Prints a line for each, and ends
+with an error where one fails.
 """
 import os
 import random
@@ -18,6 +19,7 @@ import tempfile
 
 import lines
 import program
+import waypoints
 from lines import GOOD, INPUT, OUTPUT
 
 LIMIT = 100_000_000            # bytes that are read of an input
@@ -27,6 +29,8 @@ MANY = 1_000_000
 SEED = 1989
 
 COMMAND = program.proved('lines')
+GPX = COMMAND + ['--gpx']
+SCRIPT_GPX = ['./lines', '--gpx']
 
 # What is said on standard error, by the program and by ./lines.
 AT_LIMIT = b'lines: 100,000,000 bytes were read, which is the most; any bytes that follow are not answered\n'
@@ -34,7 +38,7 @@ UNREAD = b'lines: standard input could not be read\n'
 UNWRITTEN = b'lines: standard output could not be written\n'
 FULL = b'lines: standard output could not be written: No space left on device\n'
 CUT = b'lines: only the first 100,000,000 bytes were read and answered; docs/LINES.md says how to answer a larger input\n'
-REFUSED_WORDS = b'lines: it takes no arguments and reads standard input; ./lines --help says more\n'
+REFUSED_WORDS = b'lines: it takes no arguments but --gpx and reads standard input; ./lines --help says more\n'
 FIRST = b'lines: the first run proves and builds the program, which takes a few minutes\n'
 CLOSED = b'lines: standard input or standard output is closed\n'
 GONE = b'lines: target/bin/lines is gone; remove the folder target, and run ./lines again\n'
@@ -49,22 +53,27 @@ def printed(given, command=COMMAND):
     return done.stdout if (done.returncode, done.stderr) == (0, b'') else None
 
 
-def is_right(given):
-    return printed(given) == lines.printed(given)
+def worked(command):
+    """What works out what a command must print."""
+    return waypoints.printed if command[-1] == '--gpx' else lines.printed
 
 
-def is_right_in_pieces(given, size):
+def is_right(given, command=COMMAND):
+    return printed(given, command) == worked(command)(given)
+
+
+def is_right_in_pieces(given, size, command=COMMAND):
     """In packet mode a pipe gives each read what one write had."""
     reading, writing = os.pipe2(os.O_DIRECT | os.O_CLOEXEC)
     with tempfile.TemporaryFile() as out:
-        child = subprocess.Popen(COMMAND, stdin=reading, stdout=out)
+        child = subprocess.Popen(command, stdin=reading, stdout=out)
         os.close(reading)
         for at in range(0, len(given), size):
             os.write(writing, given[at:at + size])
         os.close(writing)
         status = child.wait(timeout=WAIT)
         out.seek(0)
-        return status == 0 and out.read() == lines.printed(given)
+        return status == 0 and out.read() == worked(command)(given)
 
 
 def is_right_at_limit(before, after, ended=(0, AT_LIMIT), command=COMMAND, end=LIMIT, taken=LIMIT):
@@ -77,7 +86,19 @@ def is_right_at_limit(before, after, ended=(0, AT_LIMIT), command=COMMAND, end=L
         f.seek(0)
         done = subprocess.run(command, stdin=f, stdout=subprocess.PIPE, stderr=subprocess.PIPE, timeout=WAIT)
         is_taken = os.lseek(f.fileno(), 0, os.SEEK_CUR) == taken
-    return is_taken and done.stdout == lines.printed(b'overlong' + before) and (done.returncode, done.stderr) == ended
+    is_answered = done.stdout == worked(command)(b'overlong' + before)
+    return is_taken and is_answered and (done.returncode, done.stderr) == ended
+
+
+def refuses_words(*words):
+    """Other arguments than --gpx: a message, and nothing is printed or read."""
+    with tempfile.TemporaryFile() as f:
+        f.write(INPUT)
+        f.seek(0)
+        done = subprocess.run([*COMMAND, *words], stdin=f, stdout=subprocess.PIPE, stderr=subprocess.PIPE, timeout=WAIT)
+        taken = os.lseek(f.fileno(), 0, os.SEEK_CUR)
+    is_told = done.stderr.startswith(b'lines: ') and done.stderr.count(b'\n') == 1 and done.stderr.endswith(b'\n')
+    return is_told and (done.returncode, done.stdout, taken) == (0, b'', 0)
 
 
 def ends_at_closed_output(is_ignored):
@@ -95,9 +116,9 @@ def ends_at_closed_output(is_ignored):
     return (done.returncode, done.stderr) == ended and taken <= lines.READ
 
 
-def ends_unread(unread, answered=b''):
+def ends_unread(unread, answered=b'', command=COMMAND):
     """An input that cannot be read any further is the end, with nothing printed for it but a word of it on standard error."""
-    done = subprocess.run(COMMAND, stdin=unread, stdout=subprocess.PIPE, stderr=subprocess.PIPE, timeout=WAIT)
+    done = subprocess.run(command, stdin=unread, stdout=subprocess.PIPE, stderr=subprocess.PIPE, timeout=WAIT)
     os.close(unread)
     return (done.returncode, done.stdout, done.stderr) == (0, answered, UNREAD)
 
@@ -114,16 +135,18 @@ def ends_at_later_read():
 
 def is_right_on_stack():
     """With so much stack all goes as it should, and with half of it nothing: so the limit is one."""
-    return [printed(EVERY, program.with_stack(size, COMMAND)) for size in (STACK, STACK // 2)] == [lines.printed(EVERY), None]
+    return all([printed(EVERY, program.with_stack(size, command)) for size in (STACK, STACK // 2)] == [worked(command)(EVERY), None]
+               for command in (COMMAND, GPX))
 
 
 def has_no_heap():
     """Of the C library the program takes what starts and ends every program, and these, none of which allocates. It makes no
-    system call itself."""
+    system call itself. The toolchain's library that gives the arguments names the last two."""
     objdump = ['x86_64-linux-gnu-objdump', '--no-show-raw-insn', '-T', '-d', COMMAND[-1]]
     listing = subprocess.run(objdump, capture_output=True, text=True, check=True).stdout
     imported = set(re.findall(r'\*UND\*.* (\w+)$', listing, re.M))
-    return {'read', 'write'} <= imported <= STARTING | {'read', 'write', 'memcpy', 'memmove', 'memset'} and 'syscall' not in listing
+    taken = {'read', 'write', 'memcpy', 'memmove', 'memset', 'open', '__errno_location'}
+    return {'read', 'write'} <= imported <= STARTING | taken and 'syscall' not in listing
 
 
 def through(given, *words, script='./lines', stdout=subprocess.PIPE, **more):
@@ -152,7 +175,7 @@ def alone(given, *words, others=None):
 def helps():
     """Where there is no toolchain and no program."""
     long, short = alone(b'', '--help', others={}), alone(b'', '-h', others={})
-    told = (GOOD, OUTPUT.split(b'\n')[0], b'Exit status:', b'target/bin/lines', b'100,000,000', b'docs/LINES.md')
+    told = (GOOD, OUTPUT.split(b'\n')[0], b'./lines --gpx', b'Exit status:', b'target/bin/lines', b'100,000,000', b'docs/LINES.md')
     return long == short == (0, long[1], b'') and all(words in long[1] for words in told)
 
 
@@ -160,10 +183,10 @@ def refuses(*words):
     return alone(INPUT, *words, others={}) == (2, b'', REFUSED_WORDS)
 
 
-def ends_unwritten(path, said):
+def ends_unwritten(path, said, *words):
     """An output that cannot be written."""
     with open(path, 'wb') as out:
-        return through(INPUT, stdout=out) == (2, b'', said)
+        return through(INPUT, *words, stdout=out) == (2, b'', said)
 
 
 def ends_at_closed_pipe(is_ignored):
@@ -180,18 +203,33 @@ def ends_closed(which):
     return through(INPUT, '-c', f'exec ./lines {which}', script='sh') == (2, b'', CLOSED)
 
 
-def answers_at_once():
+def answers_at_once(words, answer):
     """An answer comes while the input is still open."""
-    with subprocess.Popen(['./lines'], stdin=subprocess.PIPE, stdout=subprocess.PIPE, bufsize=0) as child:
+    with subprocess.Popen(['./lines', *words], stdin=subprocess.PIPE, stdout=subprocess.PIPE, bufsize=0) as child:
         child.stdin.write(GOOD + b'\n')
-        came = select.select([child.stdout], [], [], WAIT)[0] and child.stdout.read(100)
+        came = b''
+        while len(came) < len(answer) and select.select([child.stdout], [], [], WAIT)[0]:
+            more = child.stdout.read(1000)
+            came += more
+            if not more:
+                break
         child.stdin.close()
-        return child.wait(timeout=WAIT) == 0 and came == lines.printed(GOOD)
+        return child.wait(timeout=WAIT) == 0 and came == answer
 
 
 def is_right_without_rt():
     """On x86-64 the program that was built is run as it is; on another processor it needs the toolchain's emulator."""
-    return alone(INPUT) == ((2, b'', NO_EMULATOR) if program.emulator() else (1, OUTPUT, b''))
+    ends = [(2, b'', NO_EMULATOR)] * 2 if program.emulator() else [(1, OUTPUT, b''), (1, FILE, b'')]
+    return [alone(INPUT), alone(INPUT, '--gpx')] == ends
+
+
+def is_each_refused():
+    """A line of each refusal by itself, through ./lines: its comment, and exit status 1."""
+    found = []
+    for number, line in waypoints.REFUSED.items():
+        comment = b'<!-- refused %d -->\n' % number
+        found.append(through(line, '--gpx') == (1, waypoints.HEAD.encode() + comment + waypoints.FOOT.encode(), b''))
+    return found == [True] * 6
 
 
 def ends_by_signal():
@@ -219,6 +257,20 @@ PROVES = '; '.join([': >target/bin/lines', 'echo "rt: a proved (1 s)"', 'echo "r
 # What the C compiler's own files of a program's start and end name.
 STARTING = {'__libc_start_main', '__cxa_finalize', '__gmon_start__', '_ITM_deregisterTMCloneTable', '_ITM_registerTMCloneTable'}
 REST = INPUT[len(GOOD):]
+# The file that --gpx makes of document 01's example, and of nothing, in document 02's form.
+FILE = b'''\
+<?xml version="1.0" encoding="UTF-8"?>
+<gpx version="1.1" creator="Buckettin" xmlns="http://www.topografix.com/GPX/1/1">
+<wpt lat="34.998932533" lon="32.999693628"/>
+<!-- refused 5 -->
+<!-- refused 6 -->
+</gpx>
+'''
+ALONE = b'''\
+<?xml version="1.0" encoding="UTF-8"?>
+<gpx version="1.1" creator="Buckettin" xmlns="http://www.topografix.com/GPX/1/1">
+</gpx>
+'''
 EVERY = lines.given()
 DISTINCT = [line for line in dict.fromkeys(EVERY.split(b'\n')) if len(line) < 100]
 CHECKS = {
@@ -232,6 +284,18 @@ CHECKS = {
     'the example, a byte at a time': lambda: is_right_in_pieces(INPUT, 1),
     'lines of every kind, in pieces': lambda: all(is_right_in_pieces(EVERY, size) for size in (1, 7, 26, 27, 28, 60)),
     f'{MANY:,} lines': lambda: is_right(b'\n'.join(random.Random(SEED).choices(DISTINCT, k=MANY))),
+    '--gpx: the example of document 01': lambda: printed(INPUT, GPX) == waypoints.printed(INPUT) == FILE,
+    '--gpx: lines of every kind': lambda: is_right(EVERY, GPX),
+    '--gpx: no last line feed': lambda: printed(INPUT[:-1], GPX) == FILE,
+    '--gpx: an empty input': lambda: printed(b'', GPX) == ALONE,
+    '--gpx: the example, in pieces': lambda: all(is_right_in_pieces(INPUT, size, GPX) for size in (1, 7, 26, 27, 28, 60)),
+    '--gpx: lines of every kind, in pieces': lambda: all(is_right_in_pieces(EVERY, size, GPX) for size in (1, 7, 26, 27, 28, 60)),
+    f'--gpx: {MANY:,} lines': lambda: is_right(b'\n'.join(random.Random(SEED).choices(DISTINCT, k=MANY)), GPX),
+    '--gpx: line feeds alone': lambda: is_right(b'\n' * 70_000, GPX),
+    '--gpx: the limit': lambda: is_right_at_limit(b'\n' + INPUT, b'', command=GPX),
+    '--gpx: past the limit, in a line': lambda: is_right_at_limit(b'\n' + INPUT + GOOD[:20], GOOD[20:] + REST, command=GPX),
+    '--gpx: a folder as input': lambda: ends_unread(os.open('/', os.O_RDONLY), waypoints.HEAD.encode(), GPX),
+    'other arguments': lambda: all(map(refuses_words, ('-x', '', '--gp', '--gpx ', '--help'))) and refuses_words('--gpx', '--gpx'),
     'a line after one of 5,000,000 bytes': lambda: is_right(b'1' * 5_000_000 + b'\n' + INPUT),
     'the limit, after a line feed': lambda: is_right_at_limit(b'\n' + INPUT, b''),
     'the limit, with no line feed': lambda: is_right_at_limit(b'\n' + INPUT + GOOD, b''),
@@ -251,11 +315,19 @@ CHECKS = {
     'no heap': has_no_heap,
     './lines: as README.md has it': is_as_in_readme,
     './lines: help': helps,
-    './lines: other arguments': lambda: refuses('-x') and refuses('--help', '-x') and refuses(''),
+    './lines: other arguments': lambda: refuses('-x') and refuses('--help', '-x') and refuses('') and refuses('--gpx', '--gpx'),
     './lines: all answered': lambda: through(GOOD) == (0, lines.printed(GOOD), b''),
     './lines: a line refused': lambda: through(INPUT) == (1, OUTPUT, b''),
-    './lines: an answer at once': answers_at_once,
+    './lines --gpx: all answered': lambda: through(GOOD, '--gpx') == (0, waypoints.printed(GOOD), b''),
+    './lines --gpx: an empty input': lambda: through(b'', '--gpx') == (0, ALONE, b''),
+    './lines --gpx: a line refused': lambda: through(INPUT, '--gpx') == (1, FILE, b''),
+    './lines --gpx: a line of each refusal': is_each_refused,
+    './lines --gpx: lines of every kind': lambda: through(EVERY, '--gpx') == (1, waypoints.printed(EVERY), b''),
+    './lines --gpx: a full output': lambda: ends_unwritten('/dev/full', FULL, '--gpx'),
+    './lines: an answer at once': lambda: answers_at_once([], lines.printed(GOOD)),
+    './lines --gpx: an answer at once': lambda: answers_at_once(['--gpx'], waypoints.printed(GOOD).removesuffix(b'</gpx>\n')),
     './lines: the limit': lambda: is_right_at_limit(b'\n' + INPUT, b'', (1, b''), './lines'),
+    './lines --gpx: past the limit': lambda: is_right_at_limit(b'\n' + INPUT, INPUT, (2, CUT), SCRIPT_GPX, taken=LIMIT + 1),
     './lines: past the limit': lambda: is_right_at_limit(b'\n' + INPUT, INPUT, (2, CUT), './lines', taken=LIMIT + 1),
     './lines: a folder as input': lambda: through(os.open('/', os.O_RDONLY)) == (2, b'', UNREAD),
     './lines: a full output': lambda: ends_unwritten('/dev/full', FULL),

@@ -65,9 +65,8 @@ READ = 65_536                                     # bytes that `lines` reads at 
 LONG = range(27, 180)                             # bytes before a line feed that is looked for by blocks, words and bytes
 
 
-@cache
-def answered(line):
-    """What is printed for a line, without its line feed."""
+def said(line):
+    """The code and the position that a line says, or its refusal."""
     if len(line) != 26:
         return 'refused 1'
     parts = re.fullmatch(rb'([0-9]) (.{11}) (.{12})', line, re.DOTALL)
@@ -77,7 +76,14 @@ def answered(line):
     for refusal in '23':
         if refusal in found:
             return f'refused {refusal}'
-    return asked(None, int(parts[1]), *(int(number.strip('()')) for number in found))
+    return int(parts[1]), *(int(number.strip('()')) for number in found)
+
+
+@cache
+def answered(line):
+    """What is printed for a line, without its line feed."""
+    found = said(line)
+    return found if isinstance(found, str) else asked(None, *found)
 
 
 def printed(given):

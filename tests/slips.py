@@ -1,6 +1,6 @@
 """Slips: wrong programs, several to a must-fail edit.
 
-A file crates/CRATE/must-fail/NAME.edit holds up to eight slips. Each begins with a comment line that names it and says what is
+A file crates/CRATE/must-fail/NAME.edit holds up to twelve slips. Each begins with a comment line that names it and says what is
 wrong, and has pairs of old and new text after the file that they are in. rt tries all of a file together; each must be refused by
 itself (tests/must_fail.py), and a program with one of them alone goes wrong (tests/wrong_programs.py):
 
@@ -17,7 +17,7 @@ import os
 import re
 from collections import namedtuple
 
-MOST = 8                       # slips to an edit
+MOST = 12                      # slips to an edit
 
 Slip = namedtuple('Slip', 'crate edit name wrong breaks pairs')
 Item = namedtuple('Item', 'kind name body end')    # a function or a constant of a source, and where in it its body is

@@ -1,6 +1,6 @@
-/* The line program once more, in plain C: document 01's lines on standard input, their answers on standard output.
-   tests/speed.py times the proved program beside this one. tables.h, which it writes, has the terms, centre
-   and K of each datum as document 000's text prints them, and the areas of document 01. */
+/* The line program once more, in plain C: document 01's lines on standard input, their answers on standard output; with --gpx
+   document 02's file of waypoints. tests/speed.py times the proved program beside this one. tables.h, which it writes, has the
+   terms, centre and K of each datum as document 000's text prints them, and the areas of document 01. */
 #include <errno.h>
 #include <stdint.h>
 #include <string.h>
@@ -10,7 +10,8 @@
 #define DEGREE 3600000        /* in ms */
 #define LIMIT 100000000       /* bytes that are read of an input */
 #define LINE 26               /* bytes of a line, before its line feed */
-#define ANSWER 36             /* bytes of the longest answer, with its line feed */
+#define ANSWER 48             /* bytes of the longest answer, with its line feed: of a waypoint */
+#define BILLION 1000000000
 #define POWERS 10
 
 struct term {
@@ -109,6 +110,36 @@ static unsigned char *put_number(unsigned char *out, int64_t n, unsigned char ne
     return out;
 }
 
+/* Writes a text, and says where that ends. */
+static unsigned char *put_text(unsigned char *out, const char *text)
+{
+    size_t length = strlen(text);
+    memcpy(out, text, length);
+    return out + length;
+}
+
+/* Billionths of a degree of an angle in 0.00001", to the nearest, halves away from zero: 9 of these are 25 of those. */
+static int64_t billionths(int64_t units)
+{
+    int64_t n = units * 25;
+    return (n < 0 ? n - 4 : n + 4) / 9;
+}
+
+/* Writes a number of billionths with nine places, and says where that ends. */
+static unsigned char *put_degrees(unsigned char *out, int64_t n)
+{
+    uint64_t size = n < 0 ? -n : n;
+    uint32_t places = size % BILLION;
+    if (n < 0)
+        *out++ = '-';
+    out = put_number(out, size / BILLION, '.');
+    for (int i = 8; i >= 0; i--) {
+        out[i] = '0' + places % 10;
+        places /= 10;
+    }
+    return out + 9;
+}
+
 struct place {
     int code;
     int64_t latitude, longitude;
@@ -135,22 +166,48 @@ static int read_place(const unsigned char *line, size_t length, struct place *pl
     return 0;
 }
 
+static int is_gpx;                    /* whether waypoints are printed */
+
+/* Writes the waypoint of a place by its shift, and says where that ends. */
+static unsigned char *put_waypoint(unsigned char *out, const struct place *place, const int64_t values[3])
+{
+    int64_t east = billionths(100 * place->longitude + values[1]);
+    if (east >= (int64_t)180 * BILLION)
+        east -= (int64_t)360 * BILLION;
+    out = put_text(out, "<wpt lat=\"");
+    out = put_degrees(out, billionths(100 * place->latitude + values[0]));
+    out = put_text(out, "\" lon=\"");
+    out = put_degrees(out, east);
+    return put_text(out, "\"/>\n");
+}
+
 /* Writes the answer of a place to *out, and moves that to its end; the number of its refusal, or 0. */
 static int put_answer(const struct place *place, unsigned char **out)
 {
     if (place->code < 1 || place->code > 6)
         return 4;
     const struct datum *datum = &DATUMS[place->code - 1];
+    if (is_gpx && datum->count != 3)
+        return 5;
     if (place->latitude < datum->south || place->latitude > datum->north
         || place->longitude < datum->west || place->longitude > datum->east)
         return 6;
-    int64_t pu[POWERS], pv[POWERS];
+    int64_t pu[POWERS], pv[POWERS], values[3];
     work_powers(from_centre(datum->k, place->latitude - datum->latitude), pu);
     work_powers(from_centre(datum->k, place->longitude - datum->longitude), pv);
     for (int i = 0; i < datum->count; i++)
-        *out = put_number(*out, work_equation(&datum->equations[i], pu, pv), i + 1 < datum->count ? ' ' : '\n');
+        values[i] = work_equation(&datum->equations[i], pu, pv);
+    if (is_gpx)
+        *out = put_waypoint(*out, place, values);
+    else
+        for (int i = 0; i < datum->count; i++)
+            *out = put_number(*out, values[i], i + 1 < datum->count ? ' ' : '\n');
     return 0;
 }
+
+/* Before the waypoints of a file. */
+#define HEAD "<?xml version=\"1.0\" encoding=\"UTF-8\"?>\n" \
+             "<gpx version=\"1.1\" creator=\"Buckettin\" xmlns=\"http://www.topografix.com/GPX/1/1\">\n"
 
 static unsigned char input[65536], output[65536];
 static size_t put;
@@ -169,7 +226,7 @@ static int flush(void)
     return 1;
 }
 
-/* Prints a line's answer, or `refused` and the number; 0 where there is no room and none can be made. */
+/* Prints a line's answer, or that it is refused and the number; 0 where there is no room and none can be made. */
 static int print(const unsigned char *line, size_t length)
 {
     if (sizeof output - put < ANSWER && !flush())
@@ -179,7 +236,11 @@ static int print(const unsigned char *line, size_t length)
     int refusal = read_place(line, length, &place);
     if (refusal == 0)
         refusal = put_answer(&place, &out);
-    if (refusal != 0) {
+    if (refusal != 0 && is_gpx) {
+        memcpy(out, "<!-- refused 0 -->\n", 19);
+        out[13] += refusal;
+        out += 19;
+    } else if (refusal != 0) {
         memcpy(out, "refused 0\n", 10);
         out[8] += refusal;
         out += 10;
@@ -188,8 +249,13 @@ static int print(const unsigned char *line, size_t length)
     return 1;
 }
 
-int main(void)
+int main(int argc, char **argv)
 {
+    is_gpx = argc == 2 && strcmp(argv[1], "--gpx") == 0;
+    if (argc != 1 && !is_gpx)
+        return 1;
+    if (is_gpx)
+        put = put_text(output, HEAD) - output;
     size_t held = 0, left = LIMIT;    /* bytes of a line that is begun, at the start of the input; bytes that may yet be read */
     while (left > 0) {
         size_t room = sizeof input - held;
@@ -214,5 +280,9 @@ int main(void)
     }
     if (held > 0 && !print(input, held))
         return 1;
+    if (is_gpx && sizeof output - put < ANSWER && !flush())
+        return 1;
+    if (is_gpx)
+        put = put_text(output + put, "</gpx>\n") - output;
     return flush() ? 0 : 1;
 }

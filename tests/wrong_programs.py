@@ -14,13 +14,24 @@ import tempfile
 from concurrent.futures import ThreadPoolExecutor
 
 import slips
+import waypoints
 
-# the programs that run a crate, of which one at least must go wrong, where they are not `test_pages` alone
+# the programs that run a crate, of which one at least must go wrong, where they are not `test_pages` alone; behind a name, the
+# words that it is called with
 PROGRAMS = {
-    'whole': ['test_figures', 'lines'], 'kinds': ['test_figures'], 'equation': ['test_figures', 'test_pages'],
+    'whole': ['test_figures', 'lines'], 'kinds': ['test_figures', 'test_waypoints'], 'equation': ['test_figures', 'test_pages'],
     'tables': ['test_pages', 'test_figures'],    # the second for an area that goes through Greenwich, as none of the six does
-    'position': ['test_texts'], 'numbers': ['test_sheets'], 'layout': ['test_sheets'], 'sheet': ['test_sheets'],
-    'decimal': ['test_points'], 'line': ['test_points'], 'stream': ['lines'], 'lines': ['lines'], 'buckettin': ['test_calls'],
+    'datum': ['test_pages', 'test_waypoints'], 'position': ['test_texts'], 'numbers': ['test_sheets'], 'layout': ['test_sheets'],
+    'sheet': ['test_sheets'], 'decimal': ['test_points', 'test_waypoints'], 'waypoint': ['test_waypoints'],
+    'line': ['test_points', 'test_waypoints'], 'stream': ['lines', 'test_waypoints'], 'lines': ['lines', 'lines --gpx', 'lines --gpy'],
+    'buckettin': ['test_calls'],
+}
+
+# functions that the first program of their crate does not reach, and the one that does: it is tried first then
+REACHED = {
+    'test_waypoints': {'LocalPosition::shifted', 'wgs84', 'shifted', 'nine_places', 'billionths', 'up_to_three', 'put_waypoint', 'head',
+                       'foot', 'comment'},
+    'lines --gpx': {'begin', 'close', 'run', 'in_form'}, 'lines --gpy': {'asked'},
 }
 
 
@@ -28,11 +39,23 @@ def programs(crate):
     return PROGRAMS.get(crate, ['test_pages'])
 
 
-def tried(name, slip=None):
+def called(folder, words):
+    """Has the line program called with words, for what it must then print: a GPX file by `--gpx`, and nothing by another."""
+    with open(os.path.join(folder, 'stdin'), 'rb') as f:
+        printed = waypoints.printed(f.read()) if words == ['--gpx'] else b''
+    for name, content in {'args': '\n'.join(words).encode() + b'\n', 'stdout': printed}.items():
+        with open(os.path.join(folder, name), 'wb') as f:
+            f.write(content)
+
+
+def tried(program, slip=None):
     """What `rt try` says of a program in a copy of the sources with this slip: its status and its words."""
+    name, *words = program.split()
     with tempfile.TemporaryDirectory() as room:
         shutil.copy('crates.txt', room)
         shutil.copytree('crates', os.path.join(room, 'crates'), ignore=shutil.ignore_patterns('proofs', 'must-fail'))
+        if words:
+            called(os.path.join(room, 'crates', name), words)
         if slip:
             slips.apply(slip, room)
         run = subprocess.run(['rt', 'try', name], cwd=room, capture_output=True, text=True)
@@ -41,7 +64,8 @@ def tried(name, slip=None):
 
 def seen(slip):
     """What became of the first of its programs that goes wrong with a slip, or of the last."""
-    for name in programs(slip.crate):
+    touched = {name for _, name in slips.touched(slip)}
+    for name in sorted(programs(slip.crate), key=lambda program: not touched & REACHED.get(program, set())):
         status, said = tried(name, slip)
         if status != 0:
             break

@@ -21,7 +21,7 @@
 #define ROUNDS 15
 #define ROUND 0.02            /* seconds of one side in a round, or one pass over the inputs where that takes longer */
 #define UNIT 1989             /* a unit's serial */
-#define TEXT 40               /* more bytes than any text or line has */
+#define TEXT 50               /* more bytes than any text, line or waypoint has */
 #define SHEET (4 + 1 + 6 + 2 + POINTS * 9)
 #define RESULT (6 + POINTS * 13)
 
@@ -33,15 +33,16 @@ struct side {
     buckettin_written_t (*write_latitude)(int64_t, uint8_t *, size_t), (*write_longitude)(int64_t, uint8_t *, size_t);
     buckettin_written_t (*sheet)(int64_t, const uint8_t *, size_t, uint8_t *, size_t);
     buckettin_written_t (*line)(const uint8_t *, size_t, uint8_t *, size_t);
+    buckettin_written_t (*waypoint)(int64_t, int64_t, int64_t, uint8_t *, size_t);
 };
 
 enum { ARCHIVE, PLAIN, TUNED, ALL };
 
 static const struct side SIDES[ALL] = {
     {buckettin_shift, buckettin_geoid, buckettin_first, buckettin_read_latitude, buckettin_read_longitude,
-     buckettin_write_latitude, buckettin_write_longitude, buckettin_sheet, buckettin_line},
+     buckettin_write_latitude, buckettin_write_longitude, buckettin_sheet, buckettin_line, buckettin_waypoint},
     {plain_shift, plain_geoid, plain_first, plain_read_latitude, plain_read_longitude,
-     plain_write_latitude, plain_write_longitude, plain_sheet, plain_line},
+     plain_write_latitude, plain_write_longitude, plain_sheet, plain_line, plain_waypoint},
     {.shift = tuned_shift, .geoid = tuned_geoid},
 };
 
@@ -112,6 +113,7 @@ OVER_INPUTS(read_longitude, read, in->longitude_text.bytes, in->longitude_text.l
 OVER_INPUTS(write_latitude, written, in->latitude, out->lent, in->room)
 OVER_INPUTS(write_longitude, written, in->longitude, out->lent, in->room)
 OVER_INPUTS(line, written, in->line.bytes, in->line.length, out->lent, in->room)
+OVER_INPUTS(waypoint, written, in->code, in->latitude, in->longitude, out->lent, in->room)
 
 static void run_sheet(const struct side *side, const void *inputs, void *answers)
 {
@@ -124,7 +126,7 @@ static void run_sheet(const struct side *side, const void *inputs, void *answers
 typedef void run_t(const struct side *, const void *, void *);
 
 static run_t *const OF_INPUTS[] = {run_shift, run_geoid, run_first, run_read_latitude, run_read_longitude,
-                                   run_write_latitude, run_write_longitude, run_line};
+                                   run_write_latitude, run_write_longitude, run_line, run_waypoint};
 
 /* How many sides have the call: tuned C, the last of them, has two. */
 static int sides(run_t *run)
@@ -155,6 +157,10 @@ static const struct measure MEASURES[] = {
     {"write_latitude", run_write_latitude, inputs[MIXED], INPUTS, 0},
     {"write_longitude", run_write_longitude, inputs[MIXED], INPUTS, 0},
     {"line", run_line, inputs[MIXED], INPUTS, 0},
+    {"waypoint, code 1", run_waypoint, inputs[0], INPUTS, 0},
+    {"waypoint, code 2", run_waypoint, inputs[1], INPUTS, 0},
+    {"waypoint, code 3", run_waypoint, inputs[2], INPUTS, 0},
+    {"waypoint, code 4", run_waypoint, inputs[3], INPUTS, 0},
     {"shift, outside: 6", run_shift, inputs[OUTSIDE], INPUTS, 6},
     {"shift of a geoid datum: 5", run_shift, inputs[5], INPUTS, 5},
     {"read_latitude, a wrong byte: 2", run_read_latitude, inputs[WRONG_BYTE], INPUTS, 2},
@@ -162,6 +168,9 @@ static const struct measure MEASURES[] = {
     {"write_latitude, no room: 7", run_write_latitude, inputs[NO_ROOM], INPUTS, 7},
     {"line, a wrong byte: 2", run_line, inputs[WRONG_BYTE], INPUTS, 2},
     {"line, outside: 6", run_line, inputs[OUTSIDE], INPUTS, 6},
+    {"waypoint, outside: 6", run_waypoint, inputs[OUTSIDE], INPUTS, 6},
+    {"waypoint of a geoid datum: 5", run_waypoint, inputs[5], INPUTS, 5},
+    {"waypoint, no room: 7", run_waypoint, inputs[NO_ROOM], INPUTS, 7},
     {"sheet, foreign: 8", run_sheet, sheets[FOREIGN], SHEETS, 8},
     {"sheet, last code unlisted: 9", run_sheet, sheets[UNLISTED], SHEETS, 9},
 };
@@ -198,7 +207,7 @@ static void spell(struct input *input)
 static struct input inside(int code)
 {
     const struct area *area = &AREAS[code - 1];
-    struct input input = {.code = code, .room = ANSWER};
+    struct input input = {.code = code, .room = ELEMENT};
     input.latitude = between(area->south, area->north);
     input.longitude = between(area->west, area->east);
     spell(&input);
@@ -232,7 +241,7 @@ static void make_inputs(void)
         inputs[MIXED][i] = inside(1 + i % CODES);
         inputs[OUTSIDE][i] = outside(1 + i % 4);
         inputs[WRONG_BYTE][i] = with_wrong_byte(1 + i % CODES);
-        inputs[NO_ROOM][i] = inside(1 + i % CODES);
+        inputs[NO_ROOM][i] = inside(1 + i % 4);
         inputs[NO_ROOM][i].room = 0;
     }
 }

@@ -1,5 +1,5 @@
-/* Document 01's rules in plain C, with 64-bit integers. tables.h, which tests/plain.py writes, has the terms, centre and K of
-   each datum as document 000's text prints them, and the areas of document 01. */
+/* The rules of documents 01 and 02 in plain C, with 64-bit integers. tables.h, which tests/plain.py writes, has the terms, centre
+   and K of each datum as document 000's text prints them, and the areas of document 01. */
 #include "plain.h"
 
 #include <string.h>
@@ -8,6 +8,7 @@
 #define DEGREE 3600000        /* in ms */
 #define LARGEST (90 * DEGREE)
 #define TURN ((int64_t)360 * DEGREE)
+#define BILLION 1000000000
 #define POWERS 10
 #define LATITUDE 11           /* bytes of a text */
 #define LONGITUDE 12
@@ -378,6 +379,61 @@ buckettin_written_t plain_line(const uint8_t *line, size_t length, uint8_t *out,
     uint8_t text[ANSWER], *start = room < ANSWER ? text : out, *end = start;
     for (int i = 0; i < datum->count; i++)
         end = put_number(end, values[i], i + 1 < datum->count ? ' ' : '\n');
+    size_t bytes = end - start;
+    if (room < bytes)
+        return refused(7);
+    if (start == text)
+        memcpy(out, text, bytes);
+    return (buckettin_written_t){0, bytes};
+}
+
+/* Billionths of a degree of an angle in 0.00001", to the nearest: 9 of these are 25 of those. */
+static inline int64_t billionths(int64_t units)
+{
+    int64_t n = units * 25;
+    return (n < 0 ? n - 4 : n + 4) / 9;
+}
+
+static inline uint8_t *put_text(uint8_t *out, const char *text)
+{
+    size_t length = strlen(text);
+    memcpy(out, text, length);
+    return out + length;
+}
+
+/* Writes a number of billionths with nine places, and says where that ends. */
+static inline uint8_t *put_degrees(uint8_t *out, int64_t n)
+{
+    uint64_t size = n < 0 ? -n : n;
+    uint32_t places = size % BILLION;
+    if (n < 0)
+        *out++ = '-';
+    out = put_number(out, size / BILLION, '.');
+    for (int i = 8; i >= 0; i--) {
+        out[i] = '0' + places % 10;
+        places /= 10;
+    }
+    return out + 9;
+}
+
+/* The element is written where it belongs, unless it may not have room there. */
+buckettin_written_t plain_waypoint(int64_t code, int64_t latitude_ms, int64_t longitude_ms, uint8_t *out, size_t room)
+{
+    int32_t values[3];
+    int refusal = family_refusal(code, 3);
+    if (refusal == 0)
+        refusal = work_point(&DATUMS[code - 1], latitude_ms, longitude_ms, values);
+    if (refusal != 0)
+        return refused(refusal);
+    int64_t east = billionths(100 * longitude_ms + values[1]);
+    if (east >= (int64_t)180 * BILLION)
+        east -= (int64_t)360 * BILLION;
+    uint8_t text[ELEMENT], *start = room < ELEMENT ? text : out;
+    uint8_t *end = put_text(start, "<wpt lat=\"");
+    end = put_degrees(end, billionths(100 * latitude_ms + values[0]));
+    end = put_text(end, "\" lon=\"");
+    end = put_degrees(end, east);
+    end = put_text(end, "\"/>");
     size_t bytes = end - start;
     if (room < bytes)
         return refused(7);

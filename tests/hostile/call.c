@@ -17,6 +17,7 @@ const struct kind KINDS[FUNCTIONS] = {
     [WRITE_LONGITUDE] = { "write_longitude", 1, false, true, "37" },
     [SHEET] = { "sheet", 1, true, true, "1789" },
     [LINE] = { "line", 0, true, true, "123467" },
+    [WAYPOINT] = { "waypoint", 3, false, true, "34567" },
 };
 
 const struct implementation INDEPENDENT = IMPLEMENTATION(independent);
@@ -60,6 +61,8 @@ struct answer answer_of(const struct implementation *made, const struct call *ca
         return of_written(made->write[call->function - WRITE_LATITUDE](number[0], lent, call->room));
     case SHEET:
         return of_written(made->sheet(number[0], given, call->length, lent, call->room));
+    case WAYPOINT:
+        return of_written(made->waypoint(number[0], number[1], number[2], lent, call->room));
     default:
         return of_written(made->line(given, call->length, lent, call->room));
     }

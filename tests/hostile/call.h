@@ -8,7 +8,7 @@
 
 enum function {
     SHIFT, GEOID, FIRST, SECOND, THIRD, REFUSAL, READ_LATITUDE, READ_LONGITUDE, WRITE_LATITUDE, WRITE_LONGITUDE, SHEET, LINE,
-    FUNCTIONS
+    WAYPOINT, FUNCTIONS
 };
 
 enum { MOST_GIVEN = 8192, MOST_ROOM = 8192 };                           /* bytes of a call */
@@ -18,7 +18,7 @@ struct kind {
     const char *name;
     int numbers;
     bool is_given, is_lent;             /* whether it reads bytes, and whether it is lent a buffer */
-    const char *refusals;               /* those that document 01 lets it give */
+    const char *refusals;               /* those that document 01, or 02, lets it give */
 };
 
 extern const struct kind KINDS[FUNCTIONS];
@@ -42,11 +42,13 @@ struct implementation {
     buckettin_written_t (*write[2])(int64_t, uint8_t *, size_t);
     buckettin_written_t (*sheet)(int64_t, const uint8_t *, size_t, uint8_t *, size_t);
     buckettin_written_t (*line)(const uint8_t *, size_t, uint8_t *, size_t);
+    buckettin_written_t (*waypoint)(int64_t, int64_t, int64_t, uint8_t *, size_t);
 };
 
 #define IMPLEMENTATION(name) { \
     name##_shift, name##_geoid, { name##_first, name##_second, name##_third }, name##_refusal, \
-    { name##_read_latitude, name##_read_longitude }, { name##_write_latitude, name##_write_longitude }, name##_sheet, name##_line }
+    { name##_read_latitude, name##_read_longitude }, { name##_write_latitude, name##_write_longitude }, name##_sheet, name##_line, \
+    name##_waypoint }
 
 extern const struct implementation INDEPENDENT;
 

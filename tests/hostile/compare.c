@@ -1,6 +1,6 @@
 /* Compares the archive with the independent implementation: compare CASES SEED, where CASES is how many are made up at random,
    in turn for each function, before those that are always tried. Prints how often each function answered and refused, and ends
-   with 1 where the two differ or where a refusal that document 01 allows was not reached. */
+   with 1 where the two differ or where a refusal that document 01, or 02, allows was not reached. */
 #include "check.h"
 #include "tally.h"
 
@@ -9,7 +9,7 @@
 #include <stdlib.h>
 #include <string.h>
 
-enum { CODES = 6, MOST_POINTS = 500, MOST_ANSWER = 36 };
+enum { CODES = 6, MOST_POINTS = 500, MOST_ANSWER = 36, MOST_ELEMENT = 47 };
 enum { LATITUDE_LENGTH = 11, LONGITUDE_LENGTH = 12, LINE_LENGTH = 26 };
 enum { MINUTE = 60000, ROUND = 9000, LARGEST_LATITUDE = 324000000, LARGEST_LONGITUDE = 1295999999 };
 
@@ -55,10 +55,15 @@ static void try(const struct call *call) {
     count_call(call, answer);
 }
 
+static void try_waypoint(int64_t code, int64_t latitude, int64_t longitude, size_t room) {
+    try(&(struct call){ .function = WAYPOINT, .number = { code, latitude, longitude }, .room = room });
+}
+
 static void try_point(int64_t code, int64_t latitude, int64_t longitude) {
     for (enum function function = SHIFT; function <= REFUSAL; function++) {
         try(&(struct call){ .function = function, .number = { code, latitude, longitude } });
     }
+    try_waypoint(code, latitude, longitude, one_in(4) ? 0 : MOST_ELEMENT);
 }
 
 static void try_bytes(enum function function, const void *bytes, size_t length, size_t room) {
@@ -133,9 +138,27 @@ static int64_t any_longitude(int64_t code) {
     return any_place(area[2], area[3], 0, LARGEST_LONGITUDE);
 }
 
+/* Points at which the lengths of the two numbers differ, into every room. */
+static void try_waypoints(void) {
+    for (int code = 1; code <= CODES; code++) {
+        const int *area = AREAS[code - 1];
+        for (size_t room = 0; room <= MOST_ELEMENT + 20; room++) {
+            for (int corner = 0; corner < 4; corner++) {
+                try_waypoint(code, (int64_t)area[corner / 2] * MINUTE, (int64_t)area[2 + corner % 2] * MINUTE, room);
+            }
+            try_waypoint(code, any_latitude(code), any_longitude(code), room);
+        }
+    }
+}
+
+static size_t any_room(void) {
+    return (size_t)(one_in(4) ? among(0, MOST_ELEMENT + 4) : MOST_ELEMENT);
+}
+
 static void try_any_point(enum function function) {
     int64_t code = any_code();
     struct call call = { .function = function, .number = { code, any_latitude(code), any_longitude(code) } };
+    if (function == WAYPOINT) call.room = any_room();
     if (one_in(16)) call.number[1] = any_number();
     if (one_in(16)) call.number[2] = any_number();
     if (one_in(16)) call.number[among(0, 2)] ^= INT64_C(1) << among(8, 62);
@@ -405,7 +428,7 @@ static void try_any_sheet(void) {
 /* The whole. */
 
 static void try_any(enum function function) {
-    if (function <= REFUSAL) {
+    if (function <= REFUSAL || function == WAYPOINT) {
         try_any_point(function);
     } else if (function == SHEET) {
         try_any_sheet();
@@ -426,6 +449,7 @@ int main(int count, char **words) {
     for (uint64_t i = 0; i < cases; i++) try_any((enum function)(i % FUNCTIONS));
     for (int i = 0; i < CODES; i++) try_area_edges(AREAS[i]);
     try_extreme_points();
+    try_waypoints();
     try_texts();
     try_writes();
     try_sheets();

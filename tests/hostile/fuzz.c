@@ -75,6 +75,46 @@ static void check_points(const struct call *call, size_t written) {
     free(result);
 }
 
+/* A number with nine places, in billionths, from a text that is moved past it. */
+static int64_t billionths(const uint8_t **at) {
+    int64_t number = 0;
+    bool is_negative = **at == '-';
+    int places = -1;
+    if (is_negative) (*at)++;
+    for (; **at != '"'; (*at)++) {
+        if (**at == '.') {
+            places = 0;
+        } else {
+            number = 10 * number + (**at - '0');
+            places += places >= 0;
+        }
+    }
+    demand(places == 9);
+    return is_negative ? -number : number;
+}
+
+/* Whether so many billionths of a degree are the nearest to an angle in 0.00001": 9 of these are 25 of those. */
+static bool is_nearest(int64_t found, int64_t units) {
+    int64_t off = 9 * found - 25 * units;
+    return -9 <= 2 * off && 2 * off <= 9;
+}
+
+/* A waypoint has the point's position by its shift, the longitude from -180 up to 180 degrees. */
+static void check_waypoint(const struct call *call, size_t written) {
+    static const int64_t TURN = INT64_C(360000000000);
+    const int64_t *number = call->number;
+    buckettin_shift_t shift = OTHER.shift(number[0], number[1], number[2]);
+    uint8_t text[64];
+    const uint8_t *at = text + strlen("<wpt lat=\"");
+    demand(OTHER.waypoint(number[0], number[1], number[2], text, sizeof text).written == written);
+    demand(is_nearest(billionths(&at), 100 * number[1] + shift.dlat));
+    at += strlen("\" lon=\"");
+    int64_t east = billionths(&at);
+    demand(-TURN / 2 <= east && east < TURN / 2);
+    demand(is_nearest(east < 0 ? east + TURN : east, 100 * number[2] + shift.dlon));
+    demand(shift.refusal == 0 && at + strlen("\"/>") == text + written);
+}
+
 int LLVMFuzzerInitialize(int *count, char ***words);
 int LLVMFuzzerTestOneInput(const uint8_t *input, size_t size);
 
@@ -96,5 +136,6 @@ int LLVMFuzzerTestOneInput(const uint8_t *input, size_t size) {
     if (call.function == READ_LATITUDE || call.function == READ_LONGITUDE) check_text(&call, answer.value[0]);
     if (call.function == WRITE_LATITUDE || call.function == WRITE_LONGITUDE) check_number(&call);
     if (call.function == SHEET) check_points(&call, (size_t)answer.value[0]);
+    if (call.function == WAYPOINT) check_waypoint(&call, (size_t)answer.value[0]);
     return 0;
 }

@@ -1,5 +1,6 @@
-/* Written from documents 000 and 01, without looking at the crates; for clarity and not for speed. The equations stand as document
-   000 prints them and are read from that print; the working rule is in 128 bits, with one division that rounds. */
+/* Written from documents 000 and 01, without looking at the crates, and the waypoint from document 02; for clarity and not for
+   speed. The equations stand as document 000 prints them and are read from that print; the working rule is in 128 bits, with one
+   division that rounds. */
 #include "independent.h"
 
 #include <stdbool.h>
@@ -347,6 +348,40 @@ buckettin_written_t independent_line(const uint8_t *line, size_t length, uint8_t
     refusal = independent_refusal(code, latitude.ms, longitude.ms);
     if (refusal != ANSWERED) return refused(refusal);
     return write_values(code, values_at(code, latitude.ms, longitude.ms), out, room);
+}
+
+/* Waypoints. */
+
+enum { UNITS_OF_MS = 100, UNITS_OF_DEGREE = UNITS_OF_MS * MS_OF_DEGREE, BILLION = 1000000000 };
+
+/* Billionths of a degree of an angle on WGS 84, which is the local one in ms and its shift. */
+static int64_t degrees_of(int64_t ms, int32_t shift) {
+    return (int64_t)rounded((whole)(UNITS_OF_MS * ms + shift) * BILLION, UNITS_OF_DEGREE);
+}
+
+static int64_t from_greenwich(int64_t degrees) {
+    return degrees >= (int64_t)180 * BILLION ? degrees - (int64_t)360 * BILLION : degrees;
+}
+
+struct decimal { char text[32]; };
+
+static struct decimal decimal_of(int64_t billionths) {
+    struct decimal decimal;
+    int64_t size = billionths < 0 ? -billionths : billionths;
+    snprintf(decimal.text, sizeof decimal.text, "%s%d.%09d", billionths < 0 ? "-" : "", (int)(size / BILLION),
+             (int)(size % BILLION));
+    return decimal;
+}
+
+buckettin_written_t independent_waypoint(int64_t code, int64_t latitude_ms, int64_t longitude_ms, uint8_t *out, size_t room) {
+    char text[80];
+    uint32_t refusal = family_refusal(false, code, latitude_ms, longitude_ms);
+    if (refusal != ANSWERED) return refused(refusal);
+    struct values values = values_at((int)code, latitude_ms, longitude_ms);
+    struct decimal lat = decimal_of(degrees_of(latitude_ms, values.of[0]));
+    struct decimal lon = decimal_of(from_greenwich(degrees_of(longitude_ms, values.of[1])));
+    int count = snprintf(text, sizeof text, "<wpt lat=\"%s\" lon=\"%s\"/>", lat.text, lon.text);
+    return lend(text, count, out, room);
 }
 
 /* Sheets. */
