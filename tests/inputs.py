@@ -16,6 +16,7 @@ import signal
 import subprocess
 import sys
 import tempfile
+from concurrent.futures import ThreadPoolExecutor
 
 import lines
 import program
@@ -26,6 +27,7 @@ LIMIT = 100_000_000            # bytes that are read of an input
 STACK = 256                    # KiB that are enough
 WAIT = 600                     # seconds after which a run that has not ended is a failure
 MANY = 1_000_000
+AT_ONCE = 6                    # runs of ./lines
 SEED = 1989
 
 COMMAND = program.proved('lines')
@@ -232,6 +234,12 @@ def is_each_refused():
     return found == [True] * 6
 
 
+def is_right_at_once():
+    """Several at once, each of which asks rt whether the program is proved: these wait for each other."""
+    with ThreadPoolExecutor(AT_ONCE) as pool:
+        return list(pool.map(through, [INPUT] * AT_ONCE)) == [(1, OUTPUT, b'')] * AT_ONCE
+
+
 def ends_by_signal():
     """A program that is ended by a signal, of which the shell may say a word of its own."""
     status, out, said = alone(INPUT, others={'target/bin/lines': '', 'tests/run': 'kill -KILL $$'})
@@ -324,6 +332,7 @@ CHECKS = {
     './lines --gpx: a line of each refusal': is_each_refused,
     './lines --gpx: lines of every kind': lambda: through(EVERY, '--gpx') == (1, waypoints.printed(EVERY), b''),
     './lines --gpx: a full output': lambda: ends_unwritten('/dev/full', FULL, '--gpx'),
+    f'./lines: {AT_ONCE} at once': is_right_at_once,
     './lines: an answer at once': lambda: answers_at_once([], lines.printed(GOOD)),
     './lines --gpx: an answer at once': lambda: answers_at_once(['--gpx'], waypoints.printed(GOOD).removesuffix(b'</gpx>\n')),
     './lines: the limit': lambda: is_right_at_limit(b'\n' + INPUT, b'', (1, b''), './lines'),
