@@ -21,6 +21,8 @@ BILLION = 10 ** 9
 SHIFTED = (1, 2, 3, 4)         # the codes that have a shift
 MOST = 47                      # bytes of the longest element
 ROOM = 50                      # bytes of the buffer that is lent, all of which are shown
+PIECE = 150                    # of that for the answers of an input
+MOST_LINE = 48                 # bytes of the longest line of a file that tells of a point
 
 # Before and after the elements of a file.
 HEAD = ('<?xml version="1.0" encoding="UTF-8"?>\n'
@@ -197,17 +199,27 @@ def texts_of_a_file():
     return found
 
 
+def taken(given, room):
+    """How many bytes of an input are taken for so much room: those of as many lines as it has room for."""
+    return len(b''.join(list(BytesIO(given))[:room // MOST_LINE]))
+
+
+def piece(given, room):
+    """An input of at most 60 bytes, in one piece, into so much room: the lines that end in what is taken of it, and the one that its
+    end does."""
+    took = taken(given, room)
+    ended, found, rest = given[:took].rpartition(b'\n')
+    put = printed_lines(ended + found)
+    question = b'i' + program.text(given) + count(room)
+    return f'{len(given)} bytes into {room}:', question, f' took {took} put {len(put)} {put}{"#" * (PIECE - len(put))} {printed_lines(rest)}'
+
+
 def pieces():
-    """Inputs of at most 60 bytes, in one piece: the lines that end in it, and the one that its end does."""
     good, geoid, outside = lines.INPUT.splitlines()
     given = [b'', b'\n', good, good + b'\n', good + b'\n' + geoid, outside + b'\n' + good + b'\n',
              b'0\n' + good + b'\n\n' + good + b'0', b'\n' * 60, b'7' + good[1:] + b'\n' + good.replace(b'E', b'e') + b'\n', good * 2 + b'\n' + b'1']
-    found = []
-    for text in given:
-        ended, _, rest = text.rpartition(b'\n')
-        told = [printed_lines(ended + b'\n' if b'\n' in text else b''), printed_lines(rest)]
-        found.append((f'{len(text)} bytes:', b'i' + program.text(text), ''.join(f' {part}' for part in told)))
-    return found
+    rooms_about = [0, MOST_LINE - 1, MOST_LINE, 2 * MOST_LINE - 1, 2 * MOST_LINE, 3 * MOST_LINE - 1]
+    return [piece(text, PIECE) for text in given] + [piece(text, room) for text in (given[3], given[6], given[7]) for room in rooms_about]
 
 
 def cases():

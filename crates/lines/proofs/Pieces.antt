@@ -18,6 +18,7 @@ use Rattle.stream.specs.declared.Reading.{Reading}
 use Rattle.stream.proofs.Keeping.{held-kept, kept-cut}
 use Rattle.stream.proofs.Printing.{answers-pieces, answers-short, answers-kept, begun-kept}
 use Rattle.stream.proofs.Lines.{begun-pieces}
+use Rattle.stream.proofs.Feeding.{taken-within}
 use Rattle.stream.proofs.Demands.{in-pieces, takes-some, takes-within}
 use Rattle.lines.specs.Answered.{Answered}
 
@@ -49,7 +50,7 @@ more {before} {mid} {xs = xs} {ys = ys} a b =
     }
 
 -- so few are handed over for them that they can be counted
-pub few : {before new : Reading} {bytes : List ℕ} {n : ℕ} → Answered before bytes new n → before .left ≤ limit → n ≤ 29 + 19 * limit
+pub few : {before new : Reading} {bytes : List ℕ} {n : ℕ} → Answered before bytes new n → before .left ≤ limit → n ≤ 48 * limit
 few {before} {bytes = bytes} a most = omega (arith, a .left, a .count, answers-short (before .form) (held (before .begun)) bytes)
 
 -- ---- text that was put at the start of a buffer
@@ -93,8 +94,7 @@ module _ (piece : List ℕ) (from : ℕ) {before mid : Reading} {h : ℕ} (a : A
         subst (λ (k : ℕ). 0 < k) (sym is-n) (takes-some (mid .left) rest room left (omega (arith, rest-long)) enough)
 
     pub none-past : from ≤ length piece → from + n ≤ length piece
-    unfolding takenOf
-    none-past h = omega (arith, is-n, length-take (mid .left) rest, rest-long)
+    none-past h = omega (arith, is-n, taken-within (take (mid .left) rest) room, length-take (mid .left) rest, rest-long)
 
     -- as they are lent to be handed over
     lent-is : take (from + n - from) (drop from piece) ≡ take n rest
@@ -124,9 +124,11 @@ not-none got t e = false≢true (subst (λ (z : ℤ). ltZ z (pos 0) ≡ true) e 
 -- ---- the end of the input
 -- the bytes that `finish` takes are those of a line feed
 pub last-fed : (begun : List ℕ) (room n : ℕ) → n ≡ takenOf (closing begun) room → 48 ≤ room → (n ≤ 1) × (take n (10 ∷ []) ≡ closing begun)
-unfolding closing takenOf
-last-fed [] room n is-n enough = let e : n ≡ 0 = omega arith in (omega arith, ap (λ (k : ℕ). take k (10 ∷ [])) e)
-last-fed (x ∷ begun) room n is-n enough = let e : n ≡ 1 = omega arith in (omega arith, ap (λ (k : ℕ). take k (10 ∷ [])) e)
+unfolding closing
+last-fed [] room n is-n enough = let e : n ≡ 0 = omega (arith, taken-within [] room) in (omega arith, ap (λ (k : ℕ). take k (10 ∷ [])) e)
+last-fed (x ∷ begun) room n is-n enough =
+    let e : n ≡ 1 = omega (arith, taken-within (10 ∷ []) room, takes-some 1 (10 ∷ []) room (omega arith) (omega arith) enough) in
+    (omega arith, ap (λ (k : ℕ). take k (10 ∷ [])) e)
 
 pub last-put : (form : Form) (begun : List ℕ) (room n : ℕ) → n ≡ takenOf (closing begun) room → 48 ≤ room → (buffer out : List ℕ) (put : ℕ)
     → put ≡ length (answers form begun (take n (closing begun))) → out ≡ answers form begun (take n (closing begun)) ++ drop put buffer → take put out ≡ answers form begun (take n (10 ∷ []))

@@ -34,7 +34,7 @@ unfolding flatMap
 last-short form [] = omega arith
 last-short form (x ∷ line) = omega (arith, length-append (printed form (x ∷ line)) [], printed-short form (x ∷ line))
 
-pub output-short : (form : Form) (input : List ℕ) → length (output form input) ≤ 205 + 19 * limit
+pub output-short : (form : Form) (input : List ℕ) → length (output form input) ≤ 176 + 48 * limit
 unfolding answers
 output-short form input =
     let taken : List ℕ = take limit input in

@@ -66,8 +66,8 @@ fn asked(words: usize, next: &[u8]) -> Request
 
 fn in_form(form: Form) {
     let mut input = [0; 65_536];
-    // room for the answers of an eighth of what is read at a time: 48 bytes for the first byte, and 19 for each one more
-    let mut output = [0; 155_677];
+    // room for the answers of 2,428 lines, the most of 26 bytes that end in what is read at a time: 48 bytes for each
+    let mut output = [0; 116_544];
     let last = run(form, &mut input, &mut output);
     tell(form, last);
 }

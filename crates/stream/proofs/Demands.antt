@@ -3,13 +3,15 @@
 use mathlib.Core.Path.{_≡_, refl, sym, ap, _∙_}
 use mathlib.Core.Bool.{true}
 use mathlib.Core.List.{List, [], _∷_, _++_, flatMap, flatten, append-nil, append-assoc}
-use Prim.Native.Nat.{ℕ, suc, _+_, _-_, _*_, _<_, _≤_, min}
+use Prim.Native.Nat.{ℕ, zero, suc, _+_, _-_, _*_, _/_, _<_, _≤_}
 use native.Mathlib.Omega.{arith}
+use lib.Dec.{eqb}
 use lib.ListN.{length, take, length-append, length-take}
 use lib.Seq.{take-take, take-all, take-nil, append-snoc}
 use Rattle.whole.specs.Every.{every}
 use Rattle.whole.specs.Places.{fromPlaces, inPlaces}
 use Rattle.whole.specs.Round.{roundDiv}
+use Rattle.whole.proofs.Bools.{by-test}
 use Rattle.whole.specs.Digits.{digitOf, allDigits, fromDigits, digits}
 use Rattle.kinds.specs.Answer.{gives, refused}
 use Rattle.kinds.specs.Bytes.{ascii}
@@ -21,11 +23,11 @@ use Rattle.waypoint.specs.Waypoint.{degrees, element}
 use Rattle.line.specs.Line.{lineFeed, answerLine, lineIn, unbroken}
 use Rattle.line.specs.declared.Form.{Form}
 use Rattle.line.specs.declared.Form.the-variants.{Numbers, Waypoints}
-use Rattle.stream.specs.Stream.{refusedLine, printed, head, foot, terminated, ended, begunAfter, last, lines, limit, output, held, kept, started, after, takenOf, answers, closing, fed}
+use Rattle.stream.specs.Stream.{refusedLine, printed, head, foot, terminated, ended, begunAfter, last, lines, limit, output, held, kept, started, after, ofLines, takenOf, answers, closing, fed}
 use Rattle.stream.specs.declared.Reading.{Reading}
 use Rattle.stream.specs.declared.Fed.{Fed}
 use Rattle.stream.proofs.Lines as law
-use Rattle.stream.proofs.Keeping.{held-kept, take-min}
+use Rattle.stream.proofs.Keeping.{held-kept}
 use Rattle.stream.proofs.Printing as print
 use Rattle.stream.proofs.Feeding as feeding
 
@@ -199,24 +201,39 @@ module _ (form : Form) where
 module _ (left : ℕ) (bytes : List ℕ) (room : ℕ) where
   -- at least a byte, where there is one, and room for the longest line
   pub takes-some : 0 < left → 0 < length bytes → 48 ≤ room → 0 < takenOf (take left bytes) room
-  unfolding takenOf
-  takes-some some h k = omega (arith, length-take left bytes)
+  unfolding takenOf ofLines
+  takes-some some h k = one (room / 48) (take left bytes) (omega arith) (omega (arith, length-take left bytes))
+    where
+      one : (k : ℕ) (xs : List ℕ) → 0 < k → 0 < length xs → 0 < ofLines k xs
+      one zero xs h j = absurd (omega arith)
+      one (suc k) [] h j = absurd (omega arith)
+      one (suc k) (x ∷ xs) h j = omega arith
 
   -- never more than may be
   pub takes-within : takenOf (take left bytes) room ≤ left
-  unfolding takenOf
-  takes-within = omega (arith, length-take left bytes)
+  takes-within = feeding.no-more left bytes room
 
   -- what it puts fits
   pub puts-within : (form : Form) (begun : List ℕ) → length (answers form begun (take (takenOf (take left bytes) room) bytes)) ≤ room
-  puts-within form begun = feeding.fits form begun bytes room (takenOf (take left bytes) room) (feeding.no-more left room bytes refl .1)
-
-  -- a piece that there is room for is taken whole, as far as it may be
-  pub takes-all : 29 + 19 * length bytes ≤ room → take (takenOf (take left bytes) room) bytes ≡ take left bytes
   unfolding takenOf
-  takes-all h =
-      let e : takenOf (take left bytes) room ≡ min left (length bytes) = omega (arith, length-take left bytes) in
-      ap (λ (n : ℕ). take n bytes) e ∙ take-min left bytes
+  puts-within form begun =
+      let may : List ℕ = take left bytes in
+      let e : take (takenOf may room) may ≡ take (takenOf may room) bytes = take-take _ left bytes (feeding.no-more left bytes room) in
+      omega (arith, feeding.fits form begun (room / 48) may, ap (λ (l : List ℕ). length (answers form begun l)) e)
+
+  -- a piece with room for one line more than end in it is taken whole, as far as it may be
+  pub takes-all : 48 + 48 * length (ended [] bytes) ≤ room → take (takenOf (take left bytes) room) bytes ≡ take left bytes
+  unfolding takenOf ofLines ended
+  takes-all h = whole (room / 48) left bytes [] (omega arith)
+    where
+      whole : (k left : ℕ) (xs begun : List ℕ) → length (ended begun xs) < k → take (ofLines k (take left xs)) xs ≡ take left xs
+      whole zero left xs begun h = absurd (omega arith)
+      whole (suc k) zero xs begun h = refl
+      whole (suc k) (suc left) [] begun h = refl
+      whole (suc k) (suc left) (x ∷ xs) begun h =
+          by-test (eqb x lineFeed)
+          (λ t. let j : suc (length (ended [] xs)) < suc k = simp t at h in simp t (ap (λ (l : List ℕ). x ∷ l) (whole k left xs [] (omega arith))))
+          (λ t. let j : length (ended (begun ++ x ∷ []) xs) < suc k = simp t at h in simp t (ap (λ (l : List ℕ). x ∷ l) (whole (suc k) left xs (begun ++ x ∷ []) j)))
 
 -- ---- 'that two permitted answers coincide is proved'
 -- two answers that say the same are the same

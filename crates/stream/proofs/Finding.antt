@@ -7,16 +7,14 @@ use native.Mathlib.Omega.{arith}
 use lib.Bits.{bitAnd, bitXor, and-block, xor-block, and-le-r, xor-lt}
 use lib.Dec.{eqb}
 use lib.ListN.{length, take, drop, length-take, length-drop, take-append-drop}
-use lib.Seq.{take-take, take-nil}
+use lib.Seq.{take-take, take-nil, take-add, drop-drop, getD-take, getD-drop}
 use borrow.Author.Tests.{eqb-true}
 use Rattle.bytes.specs.Bytes.{slice, indexOf, indexAfter}
-use Rattle.whole.specs.Places.{fromPlaces}
 use Rattle.whole.proofs.Bools.{both, by-test}
 use Rattle.kinds.specs.Bytes.{part}
-use Rattle.kinds.proofs.Bytes.{at, part-four}
-use Rattle.numbers.specs.Numbers.{number}
+use Rattle.kinds.proofs.Bytes.{at, length-part, part-four}
 use Rattle.line.specs.Line.{lineFeed}
-use Rattle.stream.specs.Inside.{Clear, FirstFeed}
+use Rattle.stream.specs.Inside.{Clear, FirstFeed, lowFirst}
 
 -- ---- two lists, one after the other
 -- the first line feed is past a list that has none
@@ -146,39 +144,31 @@ last-clear word byte n h e =
     let f = sym (last-tested word byte n h) ∙ e in
     (omega arith, byte-clear byte (omega arith))
 
-four-clear : (word a b c d n : ℕ) → a < 256 → b < 256 → c < 256 → d < 256
-    → tested ((((word * 256 + a) * 256 + b) * 256 + c) * 256 + d) (suc (suc (suc (suc n)))) ≡ 0
-    → (tested word n ≡ 0) × (indexOf lineFeed (a ∷ b ∷ c ∷ d ∷ []) ≡ 4)
+-- so where it finds none in some bytes, no line feed is among them
+bytes-clear : (bytes : List ℕ) → ((i : ℕ) → i < length bytes → at bytes i < 256) → tested (lowFirst bytes) (length bytes) ≡ 0 → indexOf lineFeed bytes ≡ length bytes
 unfolding indexOf indexAfter
-four-clear word a b c d n ha hb hc hd e =
-    let p = last-clear (((word * 256 + a) * 256 + b) * 256 + c) d (suc (suc (suc n))) hd e in
-    let q = last-clear ((word * 256 + a) * 256 + b) c (suc (suc n)) hc (p .0) in
-    let r = last-clear (word * 256 + a) b (suc n) hb (q .0) in
-    let s = last-clear word a n ha (r .0) in
-    (s .0, simp (s .1, r .1, q .1, p .1))
+bytes-clear [] known e = refl
+bytes-clear (byte ∷ bytes) known e =
+    let p = last-clear (lowFirst bytes) byte (length bytes) (known 0 (omega arith)) e in
+    simp (p .1) (ap suc (bytes-clear bytes (λ i h. known (suc i) (omega arith)) (p .0)))
 
-module _ (l : List ℕ) (from : ℕ) (within : from + 8 ≤ length l) (known : (i : ℕ) → at l i < 256) where
-  four-at : (j : ℕ) → j + 4 ≤ length l → indexOf lineFeed (at l j ∷ at l (j + 1) ∷ at l (j + 2) ∷ at l (j + 3) ∷ []) ≡ 4 → Clear j (j + 4) l
-  four-at j h e = omega (arith, ap (indexOf lineFeed) (slice-part j 4 l ∙ part-four j l h), e)
+module _ (l : List ℕ) (from : ℕ) where
+  pub low-four-is : from + 4 ≤ length l → at l (from + 3) * 16777216 + at l (from + 2) * 65536 + at l (from + 1) * 256 + at l from ≡ lowFirst (part from 4 l)
+  low-four-is h = rw (part-four from l h) (omega arith)
 
-  abbrev word : ℕ
-  word = number (part from 4 l) * 4294967296 + number (part (from + 4) 4 l)
+  -- two fours are the eight
+  module _ (within : from + 8 ≤ length l) where
+    word-is : lowFirst (part (from + 4) 4 l) * 4294967296 + lowFirst (part from 4 l) ≡ lowFirst (part from 8 l)
+    word-is =
+        let e : part from 8 l ≡ part from 4 l ++ part (from + 4) 4 l = take-add 4 4 (drop from l) ∙ ap (λ (t : List ℕ). part from 4 l ++ take 4 t) (drop-drop 4 from l) in
+        rw e (rw (part-four from l (omega arith)) (omega arith))
 
-  word-is : word ≡ ((((((((0 * 256 + at l from) * 256 + at l (from + 1)) * 256 + at l (from + 2)) * 256 + at l (from + 3)) * 256 + at l (from + 4)) * 256 + at l (from + 4 + 1)) * 256 + at l (from + 4 + 2)) * 256 + at l (from + 4 + 3))
-  unfolding number fromPlaces
-  word-is =
-      ap (λ (t : List ℕ). number t * 4294967296 + number (part (from + 4) 4 l)) (part-four from l (omega arith))
-      ∙ ap (λ (t : List ℕ). number (at l from ∷ at l (from + 1) ∷ at l (from + 2) ∷ at l (from + 3) ∷ []) * 4294967296 + number t) (part-four (from + 4) l (omega arith))
-      ∙ omega arith
-
-  pub word-clear : tested word 8 ≡ 0 → Clear from (from + 8) l
-  word-clear e =
-      let f = ap (λ (w : ℕ). tested w 8) (sym word-is) ∙ e in
-      let p = four-clear ((((0 * 256 + at l from) * 256 + at l (from + 1)) * 256 + at l (from + 2)) * 256 + at l (from + 3)) (at l (from + 4)) (at l (from + 4 + 1)) (at l (from + 4 + 2)) (at l (from + 4 + 3)) 4 (known _) (known _) (known _) (known _) f in
-      let q = four-clear 0 (at l from) (at l (from + 1)) (at l (from + 2)) (at l (from + 3)) 0 (known _) (known _) (known _) (known _) (p .0) in
-      let c = both-clear l {mid = from + 4} (omega arith) (omega arith) (omega arith) (four-at from (omega arith) (q .1)) (four-at (from + 4) (omega arith) (p .1)) in
-      let g : from + 4 + 4 ≡ from + 8 = omega arith in
-      rw g at c
+    pub word-clear : ((i : ℕ) → at l i < 256) → tested (lowFirst (part (from + 4) 4 l) * 4294967296 + lowFirst (part from 4 l)) 8 ≡ 0 → Clear from (from + 8) l
+    word-clear known e =
+        let n : length (part from 8 l) ≡ 8 = length-part from 8 l within in
+        let f : tested (lowFirst (part from 8 l)) (length (part from 8 l)) ≡ 0 = (λ i. tested (sym word-is i) (n i)) ∙ e in
+        let bytes : (i : ℕ) → i < length (part from 8 l) → at (part from 8 l) i < 256 = λ i h. rw (getD-take 8 (drop from l) i 0 (omega (arith, h, n)), getD-drop from l i 0) (known (from + i)) in
+        omega (arith, ap (indexOf lineFeed) (slice-part from 8 l), bytes-clear (part from 8 l) bytes f, n)
 
 pub sum-fits : (w : ℕ) → bitAnd w 9187201950435737471 + 72340172838076673 < 18446744073709551616
 sum-fits w = omega (arith, and-le-r w 9187201950435737471)

@@ -8,7 +8,7 @@ use native.Mathlib.Omega.{arith}
 use lib.Dec.{eqb, leb}
 use lib.ListN.{length, take, drop, length-append}
 use lib.Seq.{take-all, take-length, take-take, length-take-le}
-use borrow.Author.Tests.{leb-true, leb-false, eqb-true, eqb-false, le-leb, ne-eqb}
+use borrow.Author.Tests.{leb-true, leb-false, le-leb, ne-eqb}
 use Rattle.whole.specs.Digits.{byteOf}
 use Rattle.whole.proofs.Bools.{by-test}
 use Rattle.kinds.specs.Answer.{Answer, gives, refused, placed, following, counted, lent}
@@ -100,28 +100,13 @@ module _ (form : Form) where
   unfolding answers flatMap
   answers-line begun l rest h = ap (flatMap (printed form)) (line-ends begun l rest h)
 
-  -- 19 bytes for each byte in
-  printed-scaled : (line : List ℕ) → length (printed form line) ≤ 19 * (length line + 1)
-  printed-scaled line =
-      by-test (eqb (length line) 26)
-      (λ t. omega (arith, printed-short form line, eqb-true (length line) 26 t))
-      (λ t. omega (arith, ap length (printed-refused form line (eqb-false (length line) 26 t)), refused-short form 1))
-
-  answers-scaled : (begun bytes : List ℕ) → length (answers form begun bytes) ≤ 19 * (length begun + length bytes)
-  unfolding answers ended flatMap
-  answers-scaled begun [] = omega arith
-  answers-scaled begun (x ∷ bytes) =
-      by-test (eqb x lineFeed)
-      (λ t. simp (t, length-append) (omega (arith, printed-scaled begun, answers-scaled [] bytes)))
-      (λ t. simp t (omega (arith, answers-scaled (begun ++ x ∷ []) bytes, length-append begun (x ∷ []))))
-
-  -- and 29 more for a line that was begun before
-  pub answers-short : (begun bytes : List ℕ) → length (answers form begun bytes) ≤ 29 + 19 * length bytes
+  -- 48 bytes for each byte in, of which each may end a line
+  pub answers-short : (begun bytes : List ℕ) → length (answers form begun bytes) ≤ 48 * length bytes
   unfolding answers ended flatMap
   answers-short begun [] = omega arith
   answers-short begun (x ∷ bytes) =
       by-test (eqb x lineFeed)
-      (λ t. simp (t, length-append) (omega (arith, printed-short form begun, answers-scaled [] bytes)))
+      (λ t. simp (t, length-append) (omega (arith, printed-short form begun, answers-short [] bytes)))
       (λ t. simp t (omega (arith, answers-short (begun ++ x ∷ []) bytes)))
 
   -- 27 bytes of a line that is begun are enough

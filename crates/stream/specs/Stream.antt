@@ -1,7 +1,7 @@
 -- Document 01, 'The line program': the lines of an input, and what is printed for them; and document 02, wish 1: a GPX file.
 use mathlib.Core.Bool.{cond}
 use mathlib.Core.List.{List, [], _∷_, _++_, flatMap}
-use Prim.Native.Nat.{ℕ, _-_, _/_, min}
+use Prim.Native.Nat.{ℕ, zero, suc, _-_, _/_, min}
 use lib.Dec.{eqb}
 use lib.ListN.{length, take, replicate}
 use Rattle.whole.specs.Digits.{byteOf}
@@ -89,9 +89,15 @@ after reading bytes = record { form = reading .form; begun = kept (begunAfter (h
 abbrev pub atEnd : Reading → Reading
 atEnd reading = record { form = reading .form; begun = reading .begun; left = 0 }
 
--- how many bytes are taken of those that may be: for the first there must be room for 48 bytes, and for each one more for 19
+-- how many bytes are so many lines that end, or all where fewer end
+unfoldable pub ofLines : ℕ → List ℕ → ℕ
+ofLines zero bytes = 0
+ofLines (suc k) [] = 0
+ofLines (suc k) (byte ∷ rest) = suc (cond (eqb byte lineFeed) (ofLines k rest) (ofLines (suc k) rest))
+
+-- how many are taken of those that may be: there must be room for 48 bytes for each line
 unfoldable pub takenOf : List ℕ → ℕ → ℕ
-takenOf bytes room = min (length bytes) ((room - 29) / 19)
+takenOf bytes room = ofLines (room / 48) bytes
 
 -- what is printed for the lines that end in some bytes
 unfoldable pub answers : Form → List ℕ → List ℕ → List ℕ

@@ -5,18 +5,18 @@ use kinds::put;
 use line::Form;
 use line::LINE;
 use line::WAYPOINT;
-use numbers::four;
 use whole::least;
 ghost use mathlib.Core.Path.{_≡_};
 ghost use mathlib.Core.Bool.{true};
 ghost use mathlib.Core.List.{[], _++_};
-ghost use Prim.Native.Nat.{_+_, _-_, _/_, _<_, _≤_};
+ghost use Prim.Native.Nat.{_+_, _<_, _≤_};
 ghost use lib.ListN.{length, take, drop};
 ghost use Rattle.kinds.specs.Answer.{placed, counted, lent};
+ghost use Rattle.kinds.specs.Bytes.{part};
 ghost use Rattle.kinds.specs.Cases.{written};
 ghost use Rattle.line.specs.declared.Form.the-variants.{Numbers, Waypoints};
 ghost use Rattle.stream.specs.Stream.{refusedLine, printed, head, foot, held, kept, started, after, atEnd, takenOf, answers, closing};
-ghost use Rattle.stream.specs.Inside.{Clear, FirstFeed};
+ghost use Rattle.stream.specs.Inside.{Clear, FirstFeed, endFor, lowFirst};
 
 // The first bytes of a line whose line feed has not come. Of a longer line 27 are kept, which are refused as it is.
 pub struct Begun {
@@ -109,9 +109,9 @@ pub fn foot(form: Form, out: &mut [u8]) -> WrittenAnswer
     }
 }
 
-// Takes the next bytes of an input, as many as may be taken and out surely has room for the answers of: 48 bytes of room for the
-// first and 19 for each one more. Puts the answers of the lines that end in them at the start of out, a line each. The last clause
-// follows from the others: it is what lending `&out[..put]` asks of a caller.
+// Takes the next bytes of an input, as far as they may be taken and for as many lines as out has room for, at 48 bytes each. Puts the
+// answers of the lines that end in them at the start of out, a line each. The last clause follows from the others: it is what
+// lending `&out[..put]` asks of a caller.
 pub fn feed(reading: Reading, bytes: &[u8], out: &mut [u8]) -> Fed
     ensures { λ r. ⌜ r .taken ≡ takenOf (take (reading .left) (now (bytes .entry))) (length (now (out .entry))) ⌝ }
     ensures { λ r. ⌜ r .reading ≡ after reading (take (r .taken) (now (bytes .entry))) ⌝ }
@@ -119,27 +119,31 @@ pub fn feed(reading: Reading, bytes: &[u8], out: &mut [u8]) -> Fed
     ensures { λ r. ⌜ now (out .exit) ≡ answers (reading .form) (held (reading .begun)) (take (r .taken) (now (bytes .entry))) ++ drop (r .put) (now (out .entry)) ⌝ }
     ensures { λ r. ⌜ (r .put ≤ length (now (out .exit))) × (r .put ≡ length (take (r .put) (now (out .exit)))) ⌝ }
 {
-    let taken = least(least(reading.left, bytes.len()), bytes_for(out.len()));
-    let left = reading.left - taken;
     let form = reading.form;
+    let left = reading.left;
+    let most = least(left, bytes.len());
     let mut line = reading.begun;
+    let mut lines = out.len() / WAYPOINT;
     let mut from = 0;
     let mut put = 0;
     loop {
-        let end = line_feed(bytes, from, taken);
-        if taken <= end {
+        let to = end_for(lines, from, most);
+        let end = line_feed(bytes, from, to);
+        if to <= end {
+            let left = left - to;
             return Fed {
                 reading: Reading {
                     form,
-                    begun: extended(line, &bytes[from..taken]),
+                    begun: extended(line, &bytes[from..to]),
                     left,
                 },
-                taken,
+                taken: to,
                 put,
             };
         }
         put += ended(form, line, &bytes[from..end], &mut out[put..]);
         line.count = 0;
+        lines -= 1;
         from = end + 1;
     }
 }
@@ -251,25 +255,42 @@ fn is_clear_block(bytes: &[u8], at: usize) -> bool
 
 // That no line feed is in a word; where 0x8A is in it, which is a line feed with a bit more, this is not said either. The first
 // constant turns the lower seven bits of both, and of no other byte, into ones, so that with 1 more they have an eighth; no byte
-// carries into the next. The first byte is read as the highest: the other way round, the compiler tests two words at a time, with
-// instructions that take longer in an emulator.
+// carries into the next.
 fn is_clear(bytes: &[u8], at: usize) -> bool
     requires { ⌜ at + 8 ≤ length (now bytes) ⌝ }
     ensures { λ r. ⌜ (r ≡ true → Clear at (at + 8) (now (bytes .entry))) ⌝ }
 {
-    let word = four(bytes, at) as u64 * 4_294_967_296 + four(bytes, at + 4) as u64;
+    let word = low_four(bytes, at + 4) as u64 * 4_294_967_296 + low_four(bytes, at) as u64;
     let marked = ((word ^ 0x7575_7575_7575_7575) & 0x7F7F_7F7F_7F7F_7F7F) + 0x0101_0101_0101_0101;
     marked & 0x8080_8080_8080_8080 == 0
 }
 
-// How many bytes may be taken for so much room.
-fn bytes_for(room: usize) -> usize
-    ensures { λ r. ⌜ r ≡ (room - 29) / 19 ⌝ }
+// Four bytes as one number, the first the lowest, as the processor has them: so the compiler tests two words at a time.
+fn low_four(bytes: &[u8], at: usize) -> u32
+    requires { ⌜ at + 4 ≤ length (now bytes) ⌝ }
+    ensures { λ r. ⌜ r ≡ lowFirst (part at 4 (now (bytes .entry))) ⌝ }
 {
-    if room < WAYPOINT {
-        return 0;
+    wide(bytes[at + 3]) * 16_777_216
+        + wide(bytes[at + 2]) * 65_536
+        + wide(bytes[at + 1]) * 256
+        + wide(bytes[at])
+}
+
+fn wide(byte: u8) -> u32
+    ensures { λ r. ⌜ r ≡ byte ⌝ }
+    ensures { λ r. ⌜ r < 256 ⌝ }
+{
+    byte as u32
+}
+
+// Where the bytes end that may be taken: at the place itself, where there is room for no line more.
+fn end_for(lines: usize, from: usize, most: usize) -> usize
+    ensures { λ r. ⌜ r ≡ endFor lines from most ⌝ }
+{
+    if lines == 0 {
+        return from;
     }
-    (room - (WAYPOINT - REFUSED)) / REFUSED
+    most
 }
 
 // The line that is begun once more bytes have come, with no line feed among them.

@@ -6,6 +6,7 @@ use kinds::Wgs84Longitude;
 use kinds::Wgs84LongitudeAnswer;
 use kinds::Wgs84Position;
 use kinds::WrittenAnswer;
+use libc::STDOUT_FILENO;
 use line::Form;
 use stream::Reading;
 
@@ -62,16 +63,24 @@ fn foot_into(out: &mut [u8]) {
     test_show::text(out);
 }
 
-// An input in one piece: what it gives, and what its end does.
+// An input in one piece, into the start of a buffer: how much of it is taken, how much is put, and all of the buffer; and then what
+// the end of the input gives, with all of the buffer lent.
 fn input(out: &mut [u8]) {
     let mut text = [0; 60];
     let n = test_ask::text(&mut text);
-    let fed = stream::feed(Reading::start(Form::Waypoints), &text[..n], out);
-    let put = fed.put;
-    test_show::text(&out[..put]);
+    let room = test_ask::room(out);
+    let fed = stream::feed(Reading::start(Form::Waypoints), &text[..n], &mut out[..room]);
+    count(b" took ", fed.taken);
+    count(b" put ", fed.put);
+    test_show::text(out);
     let last = stream::finish(fed.reading, out);
     let put = last.put;
     test_show::text(&out[..put]);
+}
+
+fn count(words: &[u8], n: usize) {
+    io::write_all(STDOUT_FILENO, words);
+    io::print_decimal(STDOUT_FILENO, n as u64);
 }
 
 fn answer(letter: u8) {
@@ -87,7 +96,7 @@ fn answer(letter: u8) {
         b'l' => line_into(&mut [b'#'; 50]),
         b'h' => head_into(&mut [b'#'; 130]),
         b'f' => foot_into(&mut [b'#'; 10]),
-        b'i' => input(&mut [b'#'; 1_169]),
+        b'i' => input(&mut [b'#'; 150]),
         _ => {}
     }
 }

@@ -43,7 +43,7 @@ module _ (c : tie.After-read-all) where
   s = b .before .before .before .before
 
   module _ (right : c .read-all .result .«is_failed» ≡ false) where
-    few : length (head (s .args .form)) + c .read-all .result .handed + length (foot (s .args .form)) ≤ 205 + 19 * limit
+    few : length (head (s .args .form)) + c .read-all .result .handed + length (foot (s .args .form)) ≤ 176 + 48 * limit
     few = omega (arith, c .read-all .ensures right .all, output-short (s .args .form) (c .read-all .ensures right .input))
 
 close-requires : tie.Need-close-requires

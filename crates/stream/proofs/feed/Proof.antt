@@ -1,44 +1,33 @@
 -- `stream::feed` meets its contract. Assumes nothing.
-use mathlib.Core.Path.{_≡_}
+use mathlib.Core.Path.{refl}
 use Prim.Native.Nat.{_-_}
 use native.Mathlib.Omega.{arith}
-use lib.ListN.{length, take}
 use borrow.Author.Needs.{needs}
-use Rattle.stream.specs.Stream.{held, takenOf}
-use Rattle.stream.proofs.Feeding.{taken-is, no-more, Good, start, taken-within, put-within, long, lent-room, sum-fits, turn, whole}
+use Rattle.stream.specs.Stream.{held}
+use Rattle.stream.proofs.Feeding.{Good, start, to-within, put-within, long, some-left, lent-room, sum-fits, turn, whole}
 use Rattle.stream.proofs.feed.Statement.{statement}
 use Rattle.stream.proofs.feed.Tie as tie
 
 abbrev Inv-loop : tie.InvT-loop
-Inv-loop bytes out₀ taken left form line₀ from₀ put₀ out line from put = Good form bytes (held line₀) out₀ taken out (held line) from put
+Inv-loop bytes out₀ form left most line₀ lines₀ from₀ put₀ out line lines from put = Good form bytes (held line₀) out₀ most out (held line) lines from put
 
 abbrev μ-loop : tie.MeasureT-loop
-μ-loop bytes out₀ taken left form line₀ from₀ put₀ out line from put = taken - from
+μ-loop bytes out₀ form left most line₀ lines₀ from₀ put₀ out line lines from put = most - from
 
 least-requires : tie.Need-least-requires Inv-loop μ-loop
 least-requires c κs = search needs
 
-bytes-for-requires : tie.Need-bytes-for-requires Inv-loop μ-loop
-bytes-for-requires c κs = search needs
-
-least-requires-2 : tie.Need-least-requires-2 Inv-loop μ-loop
-least-requires-2 c κs = search needs
-
-module _ (c : tie.After-least2 Inv-loop μ-loop) where
-  abbrev s : tie.Start Inv-loop μ-loop
-  s = c .before .before .before .before .before
-
-  is-taken : c .least2 .result ≡ takenOf (take (s .args .reading .left) (s .args .bytes .now)) (length (s .args .out .now))
-  is-taken = taken-is _ _ _ (c .before .before .least .ensures) (c .before .bytes-for .ensures) (c .least2 .ensures)
-
-sub-left : tie.Need-sub-left Inv-loop μ-loop
-sub-left c = no-more _ _ _ (is-taken (c .before)) .0
-
 loop-holds : tie.Need-loop-holds Inv-loop μ-loop
-loop-holds c = let d = c .before .before in start _ _ _ _ (no-more (s d .args .reading .left) _ _ (is-taken d) .1)
+loop-holds c = start _ _ _ _ (omega (arith, c .before .least .ensures)) refl
+
+end-for-requires : tie.Need-end-for-requires Inv-loop μ-loop
+end-for-requires c κs = search needs
 
 line-feed-requires : tie.Need-line-feed-requires Inv-loop μ-loop
-line-feed-requires c κs = (c .loop .inv .within, taken-within (c .loop .inv))
+line-feed-requires c κs = let w = to-within (c .before .loop .inv) (c .end-for .ensures) in (w .0, w .1 .1)
+
+sub-left : tie.Need-sub-left Inv-loop μ-loop
+sub-left c = omega (arith, to-within (c .before .before .before .loop .inv) (c .before .before .end-for .ensures) .1 .0, c .before .before .before .before .before .least .ensures)
 
 sub-extended : tie.Need-sub-extended Inv-loop μ-loop
 sub-extended c = search needs
@@ -47,18 +36,16 @@ part-extended-start : tie.Need-part-extended-start Inv-loop μ-loop
 part-extended-start c = search needs
 
 part-extended-end : tie.Need-part-extended-end Inv-loop μ-loop
-part-extended-end c = search needs
+part-extended-end c = search (needs, to-within (c .before .before .before .loop .inv) (c .before .before .end-for .ensures))
 
 extended-requires : tie.Need-extended-requires Inv-loop μ-loop
 extended-requires c κs = search needs
 
 same-length : tie.Need-same-length Inv-loop μ-loop
-same-length c = long (c .before .before .before .before .loop .inv)
+same-length c = long (c .before .before .before .before .before .loop .inv)
 
 returns : tie.Need-returns Inv-loop μ-loop
-returns c =
-    let d = c .before .before .before .before .before .before .before in
-    whole (s d .args .reading) (c .before .before .before .before .loop .inv) (c .before .before .before .line-feed .ensures) (c .before .before .if1 .taken) (is-taken d) _ (c .extended .ensures)
+returns c = whole (c .before .before .before .before .before .before .before .before .before .before .args .reading) (c .before .before .before .before .before .loop .inv) (c .before .before .before .before .before .before .before .least .ensures) (c .before .before .before .before .end-for .ensures) (c .before .before .before .line-feed .ensures) (c .before .before .if1 .taken) _ (c .extended .ensures)
 
 sub-ended : tie.Need-sub-ended Inv-loop μ-loop
 sub-ended c = search needs
@@ -67,33 +54,34 @@ part-ended-start : tie.Need-part-ended-start Inv-loop μ-loop
 part-ended-start c = search needs
 
 part-ended-end : tie.Need-part-ended-end Inv-loop μ-loop
-part-ended-end c = search needs
+part-ended-end c = search (needs, to-within (c .before .before .before .loop .inv) (c .before .before .end-for .ensures))
 
 sub-ended-2 : tie.Need-sub-ended-2 Inv-loop μ-loop
-sub-ended-2 c = omega (arith, put-within (c .before .before .before .loop .inv))
+sub-ended-2 c = omega (arith, put-within (c .before .before .before .before .loop .inv))
 
 part-ended-start-2 : tie.Need-part-ended-start-2 Inv-loop μ-loop
-part-ended-start-2 c = put-within (c .before .before .before .loop .inv)
+part-ended-start-2 c = put-within (c .before .before .before .before .loop .inv)
 
 part-ended-end-2 : tie.Need-part-ended-end-2 Inv-loop μ-loop
 part-ended-end-2 c = search needs
 
 ended-requires : tie.Need-ended-requires Inv-loop μ-loop
-ended-requires c κs = lent-room (c .before .before .before .before .loop .inv) (c .before .before .before .line-feed .ensures) (c .before .before .if1 .left)
+ended-requires c κs = lent-room (c .before .before .before .before .before .loop .inv) (c .before .before .before .before .end-for .ensures) (c .before .before .before .line-feed .ensures) (c .before .before .if1 .left)
 
 add-put : tie.Need-add-put Inv-loop μ-loop
-add-put c = omega (arith, sum-fits (c .before .before .before .before .before .before .before .loop .inv) (c .before .before .before .before .before .before .line-feed .ensures) (c .before .before .before .before .before .if1 .left) (c .before .before .ended .ensures .0))
+add-put c = omega (arith, sum-fits (c .before .before .before .before .before .before .before .before .loop .inv) (c .before .before .before .before .before .before .before .end-for .ensures) (c .before .before .before .before .before .before .line-feed .ensures) (c .before .before .before .before .before .if1 .left) (c .before .before .ended .ensures .0))
+
+sub-lines : tie.Need-sub-lines Inv-loop μ-loop
+sub-lines c = some-left (c .before .before .before .before .before .before .before .before .loop .inv) (c .before .before .before .before .before .before .before .end-for .ensures) (c .before .before .before .before .before .before .line-feed .ensures) (c .before .before .before .before .before .if1 .left) .0
 
 add-from : tie.Need-add-from Inv-loop μ-loop
 add-from c = search needs
 
 loop-less : tie.Need-loop-less Inv-loop μ-loop
-loop-less c = search needs
+loop-less c = omega (arith, some-left (c .before .before .before .before .before .before .before .before .loop .inv) (c .before .before .before .before .before .before .before .end-for .ensures) (c .before .before .before .before .before .before .line-feed .ensures) (c .before .before .before .before .before .if1 .left), c .before .before .before .before .before .before .line-feed .ensures, c .before .before .before .before .before .if1 .left)
 
 loop-again : tie.Need-loop-again Inv-loop μ-loop
-loop-again c =
-    let put = c .before .before .ended .ensures in
-    turn (c .before .before .before .before .before .before .before .loop .inv) (c .before .before .before .before .before .before .line-feed .ensures) (c .before .before .before .before .before .if1 .left) _ _ (put .0) (put .1)
+loop-again c = turn (c .before .before .before .before .before .before .before .before .loop .inv) (c .before .before .before .before .before .before .before .end-for .ensures) (c .before .before .before .before .before .before .line-feed .ensures) (c .before .before .before .before .before .if1 .left) _ _ (c .before .before .ended .ensures .0) (c .before .before .ended .ensures .1)
 
 pub feed-spec : {M : Type 1} → statement M
 feed-spec =
@@ -102,11 +90,10 @@ feed-spec =
     Inv-loop
     μ-loop
     least-requires
-    bytes-for-requires
-    least-requires-2
-    sub-left
     loop-holds
+    end-for-requires
     line-feed-requires
+    sub-left
     sub-extended
     part-extended-start
     part-extended-end
@@ -121,6 +108,7 @@ feed-spec =
     part-ended-end-2
     ended-requires
     add-put
+    sub-lines
     add-from
     loop-less
     loop-again)

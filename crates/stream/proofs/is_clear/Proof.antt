@@ -9,8 +9,11 @@ use Rattle.stream.proofs.Finding.{tested, word-clear, sum-fits}
 use Rattle.stream.proofs.is_clear.Statement.{statement}
 use Rattle.stream.proofs.is_clear.Tie as tie
 
-four-requires : tie.Need-four-requires
-four-requires c κs = search needs
+add-low-four : tie.Need-add-low-four
+add-low-four c = search needs
+
+low-four-requires : tie.Need-low-four-requires
+low-four-requires c κs = search needs
 
 cast-word : tie.Need-cast-word
 cast-word c = search needs
@@ -18,11 +21,8 @@ cast-word c = search needs
 mul-word : tie.Need-mul-word
 mul-word c = search needs
 
-add-four : tie.Need-add-four
-add-four c = search needs
-
-four-requires-2 : tie.Need-four-requires-2
-four-requires-2 c κs = search needs
+low-four-requires-2 : tie.Need-low-four-requires-2
+low-four-requires-2 c κs = search needs
 
 cast-word-2 : tie.Need-cast-word-2
 cast-word-2 c = search needs
@@ -31,22 +31,22 @@ add-word : tie.Need-add-word
 add-word c = search needs
 
 add-marked : tie.Need-add-marked
-add-marked c = record { fits = sum-fits (bitXor (c .before .four .result * 4294967296 + c .four2 .result) 8463800222054970741) }
+add-marked c = record { fits = sum-fits (bitXor (c .before .low-four .result * 4294967296 + c .low-four2 .result) 8463800222054970741) }
 
 returns : tie.Need-returns
 returns c =
     let s = c .before .before .before in
-    λ e. word-clear (s .args .bytes .now) (s .args .at) (s .pre) (λ i. omega (arith, c .before .before .shared-slice-known .given i)) ((λ i. tested (sym (c .before .four .ensures) i * 4294967296 + sym (c .four2 .ensures) i) 8) ∙ eqb-true _ 0 e)
+    λ e. word-clear (s .args .bytes .now) (s .args .at) (s .pre) (λ i. omega (arith, c .before .before .shared-slice-known .given i)) ((λ i. tested (sym (c .before .low-four .ensures) i * 4294967296 + sym (c .low-four2 .ensures) i) 8) ∙ eqb-true _ 0 e)
 
 pub is-clear-spec : {M : Type 1} → statement M
 is-clear-spec =
     tie.close
     (tie.spec
-    four-requires
+    add-low-four
+    low-four-requires
     cast-word
     mul-word
-    add-four
-    four-requires-2
+    low-four-requires-2
     cast-word-2
     add-word
     add-marked
