@@ -51,9 +51,16 @@ def called(folder, words):
 def tried(program, slip=None):
     """What `rt try` says of a program in a copy of the sources with this slip: its status and its words."""
     name, *words = program.split()
+    changed = {slip.crate if slip else None, name if words else None}
     with tempfile.TemporaryDirectory() as room:
         shutil.copy('crates.txt', room)
-        shutil.copytree('crates', os.path.join(room, 'crates'), ignore=shutil.ignore_patterns('proofs', 'must-fail'))
+        os.mkdir(os.path.join(room, 'crates'))
+        for crate in os.listdir('crates'):
+            place = os.path.join(room, 'crates', crate)
+            if crate in changed:
+                shutil.copytree(os.path.join('crates', crate), place, ignore=shutil.ignore_patterns('proofs', 'must-fail'))
+            else:
+                os.symlink(os.path.abspath(os.path.join('crates', crate)), place)
         if words:
             called(os.path.join(room, 'crates', name), words)
         if slip:

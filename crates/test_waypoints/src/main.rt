@@ -69,7 +69,11 @@ fn input(out: &mut [u8]) {
     let mut text = [0; 60];
     let n = test_ask::text(&mut text);
     let room = test_ask::room(out);
-    let fed = stream::feed(Reading::start(Form::Waypoints), &text[..n], &mut out[..room]);
+    let fed = stream::feed(
+        Reading::start(Form::Waypoints),
+        &text[..n],
+        &mut out[..room],
+    );
     count(b" took ", fed.taken);
     count(b" put ", fed.put);
     test_show::text(out);
