@@ -140,9 +140,9 @@ def rooms(answer):
     return [0, ROOM] if answer.startswith('refused') else [0, 1, len(answer) - 1, len(answer), len(answer) + 1, ROOM]
 
 
-def lent(text, room, size=ROOM):
+def lent(text, room):
     """What is written of a text, or its refusal, and all bytes of the buffer, of which so many are lent."""
-    out = '#' * size
+    out = '#' * ROOM
     if text.startswith('refused'):
         return f'{text} {out}'
     return f'wrote {len(text)} {text}{out[len(text):]}' if len(text) <= room else f'refused 7 {out}'
@@ -190,15 +190,6 @@ def of_lines():
     return found + [line(text, room) for text in refused for room in (0, ROOM)]
 
 
-def texts_of_a_file():
-    """What stands before and after the waypoints, into rooms about what they need."""
-    found = []
-    for name, letter, text, size in (('head', b'h', HEAD, 130), ('foot', b'f', FOOT, 10)):
-        asked_for = [0, 1, len(text) - 1, len(text), len(text) + 1, size]
-        found += [(f'{name} into {room}:', letter + count(room), ' ' + lent(text, room, size)) for room in asked_for]
-    return found
-
-
 def taken(given, room):
     """How many bytes of an input are taken for so much room: those of as many lines as it has room for."""
     return len(b''.join(list(BytesIO(given))[:room // MOST_LINE]))
@@ -224,7 +215,7 @@ def pieces():
 
 def cases():
     found = [('waypoint', b'', '')] + points() + [('element', b'', '')] + positions() + [('line', b'', '')] + of_lines()
-    return found + [('file', b'', '')] + texts_of_a_file() + [('input', b'', '')] + pieces()
+    return found + [('input', b'', '')] + pieces()
 
 
 def check():

@@ -29,9 +29,9 @@ PROGRAMS = {
 
 # functions that the first program of their crate does not reach, and the one that does: it is tried first then
 REACHED = {
-    'test_waypoints': {'LocalPosition::shifted', 'wgs84', 'shifted', 'nine_places', 'billionths', 'up_to_three', 'put_waypoint', 'head',
-                       'foot', 'comment'},
-    'lines --gpx': {'begin', 'close', 'run', 'in_form'}, 'lines --gpy': {'asked'},
+    'test_waypoints': {'LocalPosition::shifted', 'wgs84', 'shifted', 'nine_places', 'billionths', 'up_to_three', 'put_waypoint',
+                       'comment', 'end_for'},
+    'lines --gpx': {'at_edge', 'run', 'in_form'}, 'lines --gpy': {'asked'},
 }
 
 

@@ -1,30 +1,35 @@
--- What stands before the first line and after the last is put whole, and what the arguments ask for. Assumes nothing.
+-- How long an output is, and what the arguments ask for. Assumes nothing.
 use mathlib.Core.Path.{_≡_, refl, sym, ap, _∙_}
 use mathlib.Core.Bool.{Bool, true, false, _&&_, cond, false≢true}
 use mathlib.Core.List.{List, [], _∷_, _++_, flatMap}
 use Prim.Native.Nat.{ℕ, _+_, _*_, _<_, _≤_}
 use native.Mathlib.Omega.{arith}
 use lib.Dec.{eqb}
-use lib.ListN.{length, take, drop, length-append, length-take}
-use borrow.Author.Tests.{eqb-true, lt-ltb, le-ltb, le-leb, eq-eqb}
+use lib.ListN.{length, take, length-append, length-take}
+use borrow.Author.Tests.{eqb-true, lt-ltb, le-ltb, eq-eqb}
 use Rattle.whole.proofs.Bools.{both, joined, by-test}
-use Rattle.kinds.specs.Answer.{gives, refused, placed, counted, lent}
 use Rattle.kinds.specs.Bytes.{ascii}
-use Rattle.kinds.proofs.Answers.{not-both, same-value}
 use Rattle.line.specs.declared.Form.{Form}
 use Rattle.line.specs.declared.Form.the-variants.{Numbers, Waypoints}
 use Rattle.stream.specs.Stream.{printed, head, foot, ended, begunAfter, last, lines, limit, output, answers}
 use Rattle.stream.proofs.Printing.{printed-short, flat-pieces, answers-short}
 use Rattle.lines.specs.Asked.{isSame, asked}
+use Rattle.lines.specs.Edges.{edgeText}
+use Rattle.lines.specs.declared.Edge.{Edge}
+use Rattle.lines.specs.declared.Edge.the-variants.{Head, Foot}
 use Rattle.lines.specs.declared.Request.the-variants.{Answers, Unknown}
-use Rattle.lines.proofs.Pieces.{at-start}
 
 -- ---- what stands before the first line and after the last
-pub head-short : (form : Form) → length (head form) ≤ 121
+-- with numbers nothing does
+pub nothing-at : (edge : Edge) → [] ≡ edgeText edge Numbers
+nothing-at Head = refl
+nothing-at Foot = refl
+
+head-short : (form : Form) → length (head form) ≤ 121
 head-short Numbers = omega arith
 head-short Waypoints = omega arith
 
-pub foot-short : (form : Form) → length (foot form) ≤ 7
+foot-short : (form : Form) → length (foot form) ≤ 7
 foot-short Numbers = omega arith
 foot-short Waypoints = omega arith
 
@@ -52,18 +57,6 @@ output-short form input =
       head-short form,
       foot-short form,
     )
-
--- a text that has room is put whole
-module _ (text out : List ℕ) (room : length text ≤ length out) where
-  pub text-put : (new : List ℕ) (count : ℕ) → gives count ≡ counted (placed text (length out)) → new ≡ lent (placed text (length out)) out → (count ≡ length text) × ((count ≤ length new) × (take count new ≡ text))
-  text-put new count h is-new =
-      let t = le-leb (length text) (length out) room in
-      let e : count ≡ length text = same-value (simp t at h) in
-      let n : new ≡ text ++ drop count out = is-new ∙ simp t (ap (λ (k : ℕ). text ++ drop k out) (sym e)) in
-      (e, (omega (arith, ap length n, length-append text (drop count out)), at-start text out new count e n))
-
-  pub not-refused : {n : ℕ} → refused n ≡ counted (placed text (length out)) → ⊥
-  not-refused h = let t = le-leb (length text) (length out) room in not-both (sym (simp t at h))
 
 -- ---- two words
 same : (a b : List ℕ) → isSame a b ≡ true → a ≡ b

@@ -2,7 +2,6 @@
 // GPX file of waypoints. Where reading fails, or writing does and no signal has ended it, it says so on standard error and stops;
 // where the limit ended the input, it says so there too. No contract says which bytes are read and written: those here say what
 // becomes of the bytes that stand in a buffer after a read, and how many bytes are handed over to be written for them.
-use kinds::WrittenAnswer;
 use libc::STDERR_FILENO;
 use libc::STDIN_FILENO;
 use libc::STDOUT_FILENO;
@@ -17,12 +16,19 @@ ghost use lib.ListN.{length, take};
 ghost use Rattle.libc.specs.Io.{Moved};
 ghost use Rattle.stream.specs.Stream.{head, foot, limit, held, answers, closing};
 ghost use Rattle.lines.specs.Asked.{asked};
+ghost use Rattle.lines.specs.Edges.{edgeText};
 ghost use Rattle.lines.specs.Answered.{Answered, Ended};
 
 // What the program is asked for: answers in a form, or what it does not know.
 enum Request {
     Answers(Form),
     Unknown,
+}
+
+// Where in an output a text stands that tells of no line: before the first, or after the last.
+enum Edge {
+    Head,
+    Foot,
 }
 
 // The reading after some bytes, how many these are, how many were handed over for them, and whether to stop at once.
@@ -89,10 +95,10 @@ fn tell(form: Form, last: Turn)
 // Hands over the head, the answers and the foot. The answer counts the bytes of the last read, and those that were handed over in
 // all.
 fn run(form: Form, input: &mut [u8], output: &mut [u8]) -> Turn
-    requires { ⌜ (0 < length (now input)) × (121 ≤ length (now output)) ⌝ }
+    requires { ⌜ (0 < length (now input)) × (48 ≤ length (now output)) ⌝ }
     ensures { λ r. ⌜ (r .«is_failed» ≡ false → Ended form r (r .handed)) ⌝ }
 {
-    let before = begin(form, output);
+    let before = at_edge(Edge::Head, form);
     if !before.is_written {
         return Turn {
             reading: Reading::start(form),
@@ -106,7 +112,7 @@ fn run(form: Form, input: &mut [u8], output: &mut [u8]) -> Turn
         return last;
     }
     let reading = last.reading;
-    let after = close(form, output);
+    let after = at_edge(Edge::Foot, form);
     let handed = before.bytes + last.handed + after.bytes;
     Turn {
         reading,
@@ -116,44 +122,26 @@ fn run(form: Form, input: &mut [u8], output: &mut [u8]) -> Turn
     }
 }
 
-// Hands over what stands before the first line.
-fn begin(form: Form, output: &mut [u8]) -> Handed
-    requires { ⌜ length (head form) ≤ length (now output) ⌝ }
-    ensures { λ r. ⌜ r .bytes ≡ length (head form) ⌝ }
+// Hands over what stands at an edge of an output.
+fn at_edge(edge: Edge, form: Form) -> Handed
+    ensures { λ r. ⌜ r .bytes ≡ length (edgeText edge form) ⌝ }
 {
-    match stream::head(form, output) {
-        WrittenAnswer::Gives(count) => write_head(form, &output[..count]),
-        WrittenAnswer::Refused(_) => Handed {
-            bytes: 0,
-            is_written: false,
+    match form {
+        Form::Numbers => write_edge(edge, form, b""),
+        Form::Waypoints => match edge {
+            Edge::Head => write_edge(
+                edge,
+                form,
+                b"<?xml version=\"1.0\" encoding=\"UTF-8\"?>\n<gpx version=\"1.1\" creator=\"Buckettin\" xmlns=\"http://www.topografix.com/GPX/1/1\">\n",
+            ),
+            Edge::Foot => write_edge(edge, form, b"</gpx>\n"),
         },
     }
 }
 
-// And what stands after the last.
-fn close(form: Form, output: &mut [u8]) -> Handed
-    requires { ⌜ length (foot form) ≤ length (now output) ⌝ }
-    ensures { λ r. ⌜ r .bytes ≡ length (foot form) ⌝ }
-{
-    match stream::foot(form, output) {
-        WrittenAnswer::Gives(count) => write_foot(form, &output[..count]),
-        WrittenAnswer::Refused(_) => Handed {
-            bytes: 0,
-            is_written: false,
-        },
-    }
-}
-
-fn write_head(form: Form, text: &[u8]) -> Handed
-    requires { ⌜ now text ≡ head form ⌝ }
-    ensures { λ r. ⌜ r .bytes ≡ length (head form) ⌝ }
-{
-    handed_over(text)
-}
-
-fn write_foot(form: Form, text: &[u8]) -> Handed
-    requires { ⌜ now text ≡ foot form ⌝ }
-    ensures { λ r. ⌜ r .bytes ≡ length (foot form) ⌝ }
+fn write_edge(edge: Edge, form: Form, text: &[u8]) -> Handed
+    requires { ⌜ now text ≡ edgeText edge form ⌝ }
+    ensures { λ r. ⌜ r .bytes ≡ length (edgeText edge form) ⌝ }
 {
     handed_over(text)
 }

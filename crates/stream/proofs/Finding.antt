@@ -13,6 +13,8 @@ use Rattle.bytes.specs.Bytes.{slice, indexOf, indexAfter}
 use Rattle.whole.proofs.Bools.{both, by-test}
 use Rattle.kinds.specs.Bytes.{part}
 use Rattle.kinds.proofs.Bytes.{at, length-part, part-four}
+use Rattle.numbers.specs.Numbers.{number}
+use Rattle.numbers.proofs.Numbers.{one-read}
 use Rattle.line.specs.Line.{lineFeed}
 use Rattle.stream.specs.Inside.{Clear, FirstFeed, lowFirst}
 
@@ -153,8 +155,11 @@ bytes-clear (byte ∷ bytes) known e =
     simp (p .1) (ap suc (bytes-clear bytes (λ i h. known (suc i) (omega arith)) (p .0)))
 
 module _ (l : List ℕ) (from : ℕ) where
-  pub low-four-is : from + 4 ≤ length l → at l (from + 3) * 16777216 + at l (from + 2) * 65536 + at l (from + 1) * 256 + at l from ≡ lowFirst (part from 4 l)
-  low-four-is h = rw (part-four from l h) (omega arith)
+  pub low-four-is : from + 4 ≤ length l → {a b c d : ℕ} → a ≡ number (part (from + 3) 1 l) → b ≡ number (part (from + 2) 1 l) → c ≡ number (part (from + 1) 1 l) → d ≡ number (part from 1 l)
+      → a * 16777216 + b * 65536 + c * 256 + d ≡ lowFirst (part from 4 l)
+  low-four-is h is-a is-b is-c is-d =
+      rw (part-four from l h)
+      (omega (arith, is-a, is-b, is-c, is-d, one-read (from + 3) l (omega arith), one-read (from + 2) l (omega arith), one-read (from + 1) l (omega arith), one-read from l (omega arith)))
 
   -- two fours are the eight
   module _ (within : from + 8 ≤ length l) where

@@ -89,13 +89,13 @@ after reading bytes = record { form = reading .form; begun = kept (begunAfter (h
 abbrev pub atEnd : Reading → Reading
 atEnd reading = record { form = reading .form; begun = reading .begun; left = 0 }
 
--- how many bytes are so many lines that end, or all where fewer end
+-- how many bytes the first so many lines that end have, or all bytes where fewer end
 unfoldable pub ofLines : ℕ → List ℕ → ℕ
 ofLines zero bytes = 0
 ofLines (suc k) [] = 0
 ofLines (suc k) (byte ∷ rest) = suc (cond (eqb byte lineFeed) (ofLines k rest) (ofLines (suc k) rest))
 
--- how many are taken of those that may be: there must be room for 48 bytes for each line
+-- how many bytes are taken of those that may be: of as many lines as there is room for, at 48 bytes each
 unfoldable pub takenOf : List ℕ → ℕ → ℕ
 takenOf bytes room = ofLines (room / 48) bytes
 

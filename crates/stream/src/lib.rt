@@ -1,21 +1,19 @@
 // An input that comes in pieces, a line of it at a time: what is begun of a line is carried from piece to piece, and how many more
 // bytes may be taken; and in which form its lines are answered.
 use kinds::WrittenAnswer;
-use kinds::put;
 use line::Form;
 use line::LINE;
 use line::WAYPOINT;
+use numbers::one;
 use whole::least;
 ghost use mathlib.Core.Path.{_≡_};
 ghost use mathlib.Core.Bool.{true};
 ghost use mathlib.Core.List.{[], _++_};
 ghost use Prim.Native.Nat.{_+_, _<_, _≤_};
 ghost use lib.ListN.{length, take, drop};
-ghost use Rattle.kinds.specs.Answer.{placed, counted, lent};
 ghost use Rattle.kinds.specs.Bytes.{part};
-ghost use Rattle.kinds.specs.Cases.{written};
 ghost use Rattle.line.specs.declared.Form.the-variants.{Numbers, Waypoints};
-ghost use Rattle.stream.specs.Stream.{refusedLine, printed, head, foot, held, kept, started, after, atEnd, takenOf, answers, closing};
+ghost use Rattle.stream.specs.Stream.{refusedLine, printed, held, kept, started, after, atEnd, takenOf, answers, closing};
 ghost use Rattle.stream.specs.Inside.{Clear, FirstFeed, endFor, lowFirst};
 
 // The first bytes of a line whose line feed has not come. Of a longer line 27 are kept, which are refused as it is.
@@ -81,31 +79,6 @@ impl Reading {
         ensures { λ r. ⌜ r ≡ self .left ⌝ }
     {
         self.left
-    }
-}
-
-// Puts what stands before the first line of a form's output at the start of out. Refused: 7 out is shorter.
-pub fn head(form: Form, out: &mut [u8]) -> WrittenAnswer
-    ensures { λ r. ⌜ written r ≡ counted (placed (head form) (length (now (out .entry)))) ⌝ }
-    ensures { λ r. ⌜ now (out .exit) ≡ lent (placed (head form) (length (now (out .entry)))) (now (out .entry)) ⌝ }
-{
-    match form {
-        Form::Numbers => put(b"", out),
-        Form::Waypoints => put(
-            b"<?xml version=\"1.0\" encoding=\"UTF-8\"?>\n<gpx version=\"1.1\" creator=\"Buckettin\" xmlns=\"http://www.topografix.com/GPX/1/1\">\n",
-            out,
-        ),
-    }
-}
-
-// And what stands after the last, likewise.
-pub fn foot(form: Form, out: &mut [u8]) -> WrittenAnswer
-    ensures { λ r. ⌜ written r ≡ counted (placed (foot form) (length (now (out .entry)))) ⌝ }
-    ensures { λ r. ⌜ now (out .exit) ≡ lent (placed (foot form) (length (now (out .entry)))) (now (out .entry)) ⌝ }
-{
-    match form {
-        Form::Numbers => put(b"", out),
-        Form::Waypoints => put(b"</gpx>\n", out),
     }
 }
 
@@ -270,17 +243,10 @@ fn low_four(bytes: &[u8], at: usize) -> u32
     requires { ⌜ at + 4 ≤ length (now bytes) ⌝ }
     ensures { λ r. ⌜ r ≡ lowFirst (part at 4 (now (bytes .entry))) ⌝ }
 {
-    wide(bytes[at + 3]) * 16_777_216
-        + wide(bytes[at + 2]) * 65_536
-        + wide(bytes[at + 1]) * 256
-        + wide(bytes[at])
-}
-
-fn wide(byte: u8) -> u32
-    ensures { λ r. ⌜ r ≡ byte ⌝ }
-    ensures { λ r. ⌜ r < 256 ⌝ }
-{
-    byte as u32
+    one(bytes, at + 3) * 16_777_216
+        + one(bytes, at + 2) * 65_536
+        + one(bytes, at + 1) * 256
+        + one(bytes, at)
 }
 
 // Where the bytes end that may be taken: at the place itself, where there is room for no line more.

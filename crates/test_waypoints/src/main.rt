@@ -48,21 +48,6 @@ fn line_into(out: &mut [u8]) {
     test_show::text(out);
 }
 
-// What stands before the waypoints of a file, likewise, and what stands after them.
-fn head_into(out: &mut [u8]) {
-    let room = test_ask::room(out);
-    let answer = stream::head(Form::Waypoints, &mut out[..room]);
-    test_show::written(answer);
-    test_show::text(out);
-}
-
-fn foot_into(out: &mut [u8]) {
-    let room = test_ask::room(out);
-    let answer = stream::foot(Form::Waypoints, &mut out[..room]);
-    test_show::written(answer);
-    test_show::text(out);
-}
-
 // An input in one piece, into the start of a buffer: how much of it is taken, how much is put, and all of the buffer; and then what
 // the end of the input gives, with all of the buffer lent.
 fn input(out: &mut [u8]) {
@@ -98,8 +83,6 @@ fn answer(letter: u8) {
         ),
         b'e' => element(test_ask::number(), test_ask::number()),
         b'l' => line_into(&mut [b'#'; 50]),
-        b'h' => head_into(&mut [b'#'; 130]),
-        b'f' => foot_into(&mut [b'#'; 10]),
         b'i' => input(&mut [b'#'; 150]),
         _ => {}
     }
