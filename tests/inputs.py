@@ -40,6 +40,7 @@ UNREAD = b'lines: standard input could not be read\n'
 UNWRITTEN = b'lines: standard output could not be written\n'
 FULL = b'lines: standard output could not be written: No space left on device\n'
 CUT = b'lines: only the first 100,000,000 bytes were read and answered; docs/LINES.md says how to answer a larger input\n'
+OTHER_WORDS = b'lines: it takes no argument but --gpx\n'
 REFUSED_WORDS = b'lines: it takes no arguments but --gpx and reads standard input; ./lines --help says more\n'
 FIRST = b'lines: the first run proves and builds the program, which takes a few minutes\n'
 CLOSED = b'lines: standard input or standard output is closed\n'
@@ -99,8 +100,7 @@ def refuses_words(*words):
         f.seek(0)
         done = subprocess.run([*COMMAND, *words], stdin=f, stdout=subprocess.PIPE, stderr=subprocess.PIPE, timeout=WAIT)
         taken = os.lseek(f.fileno(), 0, os.SEEK_CUR)
-    is_told = done.stderr.startswith(b'lines: ') and done.stderr.count(b'\n') == 1 and done.stderr.endswith(b'\n')
-    return is_told and (done.returncode, done.stdout, taken) == (0, b'', 0)
+    return (done.returncode, done.stdout, done.stderr, taken) == (0, b'', OTHER_WORDS, 0)
 
 
 def ends_at_closed_output(is_ignored):
