@@ -2,10 +2,10 @@
 -- Assumes nothing.
 use mathlib.Core.Path.{◌≡◌, refl, sym, ap, ◌∙◌, subst}
 use mathlib.Core.Bool.{true, false}
-use Prim.Native.Nat.{ℕ, zero, suc, ◌+◌, ◌-◌, ◌*◌, ◌/◌, ◌%◌, ◌<◌, ◌≤◌, suc-le-suc}
+use Prim.Native.Nat.{ℕ, zero, suc, ◌+◌, ◌*◌, ◌/◌, ◌%◌, ◌<◌, ◌≤◌, suc-le-suc}
 use native.Mathlib.Nat.{le_antisymm, lt_of_mul-lt-mul_left, lt_of_mul-lt-mul_right, le-div_iff_mul-le, div-add-mod, mod-lt, div-eq_of_lt-le}
 use native.Mathlib.Omega.{arith}
-use lib.Dec.{T, leb, leb→le, le→leb}
+use lib.Dec.{T, leb→le, le→leb}
 use lib.IntN.{ℤ, pos, negsuc, neg_ℤ, nat_abs, ◌-ℤ◌, ◌*ℤ◌, neg_ℤ-neg_ℤ, -ℤ-+ℤ_cancel}
 use lib.Signed.{non_neg, lt_z, le_z, ◌≤ℤ◌, le_z_yes}
 use Rattle.whole.specs.Round.{round_half_up, round_div}

@@ -1,5 +1,7 @@
 // Whole numbers: division rounded to the nearest, the product of two scaled numbers, a size and a sign, the lesser of two, and the
 // laws that the toolchain's library lacks. No geodesy.
+#![tactic(auto)]
+
 ghost use Rattle.std.specs.Prelude.{◌≡◌, ◌+◌, ◌*◌, ◌/◌, ◌<◌, ◌≤◌, min, nat_abs};
 ghost use Rattle.whole.specs.Round.{round_half_up, round_div, scale};
 ghost use Rattle.whole.specs.Sign.{with_sign};
