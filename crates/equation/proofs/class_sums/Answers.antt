@@ -1,4 +1,4 @@
-use Rattle.std.proofs.Common.{◌≡◌, refl, ap, ◌∙◌, arith, length, take, List}
+use Rattle.std.proofs.Common.{refl, ap, ◌∙◌, arith, List}
 use lib.Seq.{take_all}
 use Rattle.equation.specs.Equation.{Term, terms}
 use Rattle.equation.specs.Inside.{class_sum, class_sums}

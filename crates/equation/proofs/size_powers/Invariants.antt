@@ -1,4 +1,4 @@
-use Rattle.std.proofs.Common.{◌-◌, ◌≡◌, ◌≤◌, pos, length, take, ℕ, List, ℤ}
+use Rattle.std.proofs.Common.{◌-◌, ◌≡◌, ◌≤◌, pos, length, take}
 use Rattle.whole.specs.Round.{scale}
 use Rattle.equation.specs.Powers.{powers_of}
 use Rattle.equation.proofs.Steps.{limit}

@@ -1,11 +1,10 @@
-use Rattle.std.proofs.Common.{◌≡◌, sym, ap, ◌∙◌, subst, rules, arith, pos, List, ℤ}
+use Rattle.std.proofs.Common.{◌≡◌, sym, ap, ◌∙◌, rules, pos, List, ℤ}
 use native.Mathlib.Nat.{lt_of_le_of_lt}
 use lib.Signed.{lt_z}
 use mir.Syntax.{w64}
 use mir.Val.{SFits}
 use Rattle.whole.proofs.Words.{of}
 use Rattle.equation.specs.Equation.{Term, terms}
-use Rattle.equation.specs.Room.{Room}
 use Rattle.equation.specs.Inside.{size_powers, both_powers, class_sums, joined}
 use Rattle.equation.specs.declared.Powers.{Powers}
 use Rattle.equation.proofs.Classes.{classes_size, sum_joined}
