@@ -39,7 +39,7 @@ fn billionths(n: u64, line: &mut [u8]) -> usize
     let point = up_to_three((n / BILLION) as u32, line);
     let mut places = in_ten((n % BILLION) as u32);
     places[0] = b'.';
-    point + bytes::copy(&places, &mut line[point..])
+    point + kinds::copy(&places, &mut line[point..])
 }
 
 // The digits of a number below 1,000, without leading zeros, at the start of what is lent.
@@ -86,7 +86,7 @@ fn digits(n: u32, line: &mut [u8]) -> usize
 {
     let ten = in_ten(n);
     let first = first_digit(&ten);
-    bytes::copy(&ten[first..], line)
+    kinds::copy(&ten[first..], line)
 }
 
 // A number in ten digits.

@@ -3,13 +3,15 @@
 // tests a raw number (a shift and a height also by `of`, from 4 bytes, any of which are one; a WGS 84 position also by
 // `shifted`, which does not test), and read by a method: code that takes one kind, or a bare number, for another kind does not
 // build.
-ghost use Rattle.std.specs.Prelude.{◌≡◌, length};
+#![tactic(auto)]
+
+ghost use Rattle.std.specs.Prelude.{◌≡◌, ◌≤◌, ◌++◌, drop, length};
 ghost use Rattle.kinds.specs.Answer.{gives, provided, number_of, placed, counted, lent};
 ghost use Rattle.kinds.specs.Cases.{local_latitude, local_longitude, local_position, wgs84_latitude, wgs84_longitude, angle_shift, height, written};
 ghost use Rattle.kinds.specs.Kinds.{within, is_latitude, is_longitude, is_position, is_wgs84_latitude, is_wgs84_longitude, is_four_bytes, tested, converted};
 
 // Why a call is refused, in the order of document 01's numbers.
-#[derive(Drop)]
+#[derive(Clone, Copy)]
 pub enum Refusal {
     // a text, line or sheet has the wrong length
     Length,
@@ -51,7 +53,7 @@ impl Refusal {
 }
 
 // How many bytes a call wrote to the start of a lent buffer.
-#[derive(Drop)]
+#[derive(Clone, Copy)]
 pub enum WrittenAnswer {
     Gives(usize),
     Refused(Refusal),
@@ -65,14 +67,25 @@ pub fn put(text: &[u8], out: &mut [u8]) -> WrittenAnswer
     if out.len() < text.len() {
         return WrittenAnswer::Refused(Refusal::Room);
     }
-    WrittenAnswer::Gives(bytes::copy(text, out))
+    WrittenAnswer::Gives(copy(text, out))
+}
+
+// Copies bytes to the start of a buffer that has room for them. How many they are.
+pub fn copy(bytes: &[u8], out: &mut [u8]) -> usize
+    requires { length bytes.now ≤ length out.old }
+    ensures value { result ≡ length bytes.now }
+    ensures out_after { out.new ≡ bytes.now ++ drop result out.old }
+{
+    let count = bytes.len();
+    out[..count].copy_from_slice(bytes);
+    count
 }
 
 // Latitude on the local datum, in ms (thousandths of an arc second), north positive.
-#[derive(Drop)]
+#[derive(Clone, Copy)]
 pub struct LocalLatitude(i32);
 
-#[derive(Drop)]
+#[derive(Clone, Copy)]
 pub enum LocalLatitudeAnswer {
     Gives(LocalLatitude),
     Refused(Refusal),
@@ -116,10 +129,10 @@ impl LocalLatitude {
 }
 
 // Longitude on the local datum, in ms, east positive.
-#[derive(Drop)]
+#[derive(Clone, Copy)]
 pub struct LocalLongitude(i32);
 
-#[derive(Drop)]
+#[derive(Clone, Copy)]
 pub enum LocalLongitudeAnswer {
     Gives(LocalLongitude),
     Refused(Refusal),
@@ -156,13 +169,13 @@ impl LocalLongitude {
 }
 
 // A position on the local datum.
-#[derive(Drop)]
+#[derive(Clone, Copy)]
 pub struct LocalPosition {
     pub latitude: LocalLatitude,
     pub longitude: LocalLongitude,
 }
 
-#[derive(Drop)]
+#[derive(Clone, Copy)]
 pub enum LocalPositionAnswer {
     Gives(LocalPosition),
     Refused(Refusal),
@@ -200,10 +213,10 @@ impl LocalPosition {
 }
 
 // The shift of an angle from the local datum to WGS 84, in 0.00001".
-#[derive(Drop)]
+#[derive(Clone, Copy)]
 pub struct AngleShift(i32);
 
-#[derive(Drop)]
+#[derive(Clone, Copy)]
 pub enum AngleShiftAnswer {
     Gives(AngleShift),
     Refused(Refusal),
@@ -248,10 +261,10 @@ impl AngleShift {
 }
 
 // A height or its shift, in mm.
-#[derive(Drop)]
+#[derive(Clone, Copy)]
 pub struct Height(i32);
 
-#[derive(Drop)]
+#[derive(Clone, Copy)]
 pub enum HeightAnswer {
     Gives(Height),
     Refused(Refusal),
@@ -293,10 +306,10 @@ impl Height {
 }
 
 // Latitude on WGS 84, in 0.00001", north positive.
-#[derive(Drop)]
+#[derive(Clone, Copy)]
 pub struct Wgs84Latitude(i64);
 
-#[derive(Drop)]
+#[derive(Clone, Copy)]
 pub enum Wgs84LatitudeAnswer {
     Gives(Wgs84Latitude),
     Refused(Refusal),
@@ -325,10 +338,10 @@ impl Wgs84Latitude {
 }
 
 // Longitude on WGS 84, in 0.00001", east positive.
-#[derive(Drop)]
+#[derive(Clone, Copy)]
 pub struct Wgs84Longitude(i64);
 
-#[derive(Drop)]
+#[derive(Clone, Copy)]
 pub enum Wgs84LongitudeAnswer {
     Gives(Wgs84Longitude),
     Refused(Refusal),
@@ -357,13 +370,13 @@ impl Wgs84Longitude {
 }
 
 // A position on WGS 84.
-#[derive(Drop)]
+#[derive(Clone, Copy)]
 pub struct Wgs84Position {
     pub latitude: Wgs84Latitude,
     pub longitude: Wgs84Longitude,
 }
 
-#[derive(Drop)]
+#[derive(Clone, Copy)]
 pub enum Wgs84PositionAnswer {
     Gives(Wgs84Position),
     Refused(Refusal),

@@ -102,7 +102,7 @@ fn records(body: &[u8], points: usize, out: &mut [u8])
         let from = i * layout::POINT;
         let record = point_record(&body[from..from + layout::POINT]);
         let to = i * RECORD;
-        bytes::copy(&record, &mut out[to..]);
+        kinds::copy(&record, &mut out[to..]);
         i += 1;
     }
 }
@@ -115,8 +115,8 @@ fn put(serial: &[u8], count: &[u8], body: &[u8], points: usize, res: &mut [u8])
     requires record_length_in_bounds { 6 + points * record_length ≤ length res.old }
     ensures { res.new ≡ serial.now ++ count.now ++ records points body.now ++ drop (6 + points * record_length) res.old }
 {
-    bytes::copy(serial, res);
-    bytes::copy(count, &mut res[layout::SERIAL..]);
+    kinds::copy(serial, res);
+    kinds::copy(count, &mut res[layout::SERIAL..]);
     records(body, points, &mut res[START..]);
 }
 

@@ -265,9 +265,9 @@ fn extended(begun: Begun, more: &[u8]) -> Begun
     // no state that this crate makes has a higher count
     let first = least(begun.count, KEPT);
     let mut bytes = [0; KEPT];
-    bytes::copy(&held[..first], &mut bytes);
+    kinds::copy(&held[..first], &mut bytes);
     let second = least(more.len(), KEPT - first);
-    bytes::copy(&more[..second], &mut bytes[first..]);
+    kinds::copy(&more[..second], &mut bytes[first..]);
     Begun {
         bytes,
         count: first + second,
@@ -307,8 +307,8 @@ fn refused(form: Form, number: u8, out: &mut [u8]) -> usize
     ensures out_after { out.new ≡ refused_line form number ++ drop result out.old }
 {
     match form {
-        Form::Numbers => bytes::copy(&refused_line(number), out),
-        Form::Waypoints => bytes::copy(&comment(number), out),
+        Form::Numbers => kinds::copy(&refused_line(number), out),
+        Form::Waypoints => kinds::copy(&comment(number), out),
     }
 }
 

@@ -49,7 +49,7 @@ pub fn element(position: Wgs84Position, line: &mut [u8]) -> usize
 {
     let middle = labelled(b"<wpt lat=\"", north(position.latitude), line);
     let end = middle + labelled(b"\" lon=\"", east(position.longitude), &mut line[middle..]);
-    end + bytes::copy(b"\"/>", &mut line[end..])
+    end + kinds::copy(b"\"/>", &mut line[end..])
 }
 
 // A label and the decimal degrees that it stands before.
@@ -58,7 +58,7 @@ fn labelled(label: &[u8], billionths: i64, line: &mut [u8]) -> usize
     ensures value { result ≡ length (label.now ++ nine_places billionths) }
     ensures line_after { line.new ≡ (label.now ++ nine_places billionths) ++ drop result line.old }
 {
-    let start = bytes::copy(label, line);
+    let start = kinds::copy(label, line);
     start + nine_places(billionths, &mut line[start..])
 }
 
