@@ -23,19 +23,19 @@ sign_first n = (refl, refl)
 
 -- and they say it
 pub digits_say : (n : ℕ) → n < 10 ^ 10 → (all_digits (decimal n) ≡ true) × (from_digits (decimal n) ≡ n)
-digits_say n h = apart.digits-say n h
+digits_say n h = apart.digits_say n h
 
 -- there is one at least, and the first is a zero only where it is the only one
 pub no_leading_zero : (n : ℕ) → (0 < length (decimal n)) × (get_or (decimal n) 0 0 ≡ 48 → length (decimal n) ≡ 1)
-no_leading_zero n = apart.no-leading-zero n
+no_leading_zero n = apart.no_leading_zero n
 
 -- and no other text of up to ten digits is like that: the number of such a text is printed as the text
 pub one_text : (t : List ℕ) → all_digits t ≡ true → 0 < length t → length t ≤ 10 → (get_or t 0 0 ≡ 48 → length t ≡ 1) → decimal (from_digits t) ≡ t
-one_text t all some few first = apart.one-text t all some few first
+one_text t all some few first = apart.one_text t all some few first
 
 -- so two 4-byte numbers that are printed alike are the same
 pub printed_apart : (x y : ℤ) → is_four_bytes x ≡ true → is_four_bytes y ≡ true → printed_number x ≡ printed_number y → x ≡ y
-printed_apart x y f g h = apart.printed-apart x y f g h
+printed_apart x y f g h = apart.printed_apart x y f g h
 
 -- numbers as they are printed: 0, 7, -7, 10, the largest of 4 bytes and the least
 pub record Printed : Type 0 where
@@ -66,11 +66,11 @@ pub record NineSay (n : ℕ) : Type 0 where
 
 pub nine_say : (n : ℕ) → n < 1000000000000 → NineSay n
 unfolding billionths
-nine_say n h = record { parts = refl; before = apart.all-decimal (n / billion); after = all_digits_lem 9 (n % billion); nine = digits_long 9 (n % billion); say = nine.places-say n h }
+nine_say n h = record { parts = refl; before = apart.all_decimal (n / billion); after = all_digits_lem 9 (n % billion); nine = digits_long 9 (n % billion); say = nine.places_say n h }
 
 -- so two numbers below 1,000 degrees that are written alike are the same
 pub nine_apart : (x y : ℤ) → nat_abs x < 1000000000000 → nat_abs y < 1000000000000 → nine_places x ≡ nine_places y → x ≡ y
-nine_apart x y f g h = nine.nine-apart x y f g h
+nine_apart x y f g h = nine.nine_apart x y f g h
 
 -- numbers as they are written
 pub record NinePlaces : Type 0 where
