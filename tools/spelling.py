@@ -50,12 +50,13 @@ def tokens(text):
 def turned(text, names, fields, locals_=()):
     """The text with its names turned; after a dot only the names of fields and of paths."""
     out, before, two_before = [], '', ''
+    aliases = set(re.findall(r'^use \S+ as (\S+)$', text, re.M))
     for token in tokens(text):
         if token.startswith('--') or (token.startswith('"') and len(token) > 1):
             if token.startswith('--'):
                 token = re.sub(r'`([^`\s]+)`', lambda m: f'`{names.get(m[1], m[1])}`', token)
         elif before == '.':
-            if token in fields or (token in names and two_before[:1].isupper()):
+            if token in fields or (token in names and (two_before[:1].isupper() or two_before in aliases)):
                 token = names.get(token, token)
         else:
             token = names.get(token, token)
@@ -82,6 +83,8 @@ def main():
     def add(name, path):
         if name not in imported and snake(name) != name:
             names[name] = snake(name)
+            if name[0] == '◌' and name[-1] == '◌':    # where it is used, between its arguments
+                names[name[1:-1]] = snake(name)[1:-1]
             where[names[name]].add(name)
 
     for path in shared:

@@ -29,7 +29,7 @@ small (gives bytes) h = h bytes refl
 small (refused n) h = omega arith
 
 pub write_small : (k : Coordinate) (x : ℤ) (room : ℕ) → Small (counted (write k x room))
-write_small k x room = small (write k x room) (λ t h. omega (arith, ap length (position.written_is k x room h).1, position.text-length k x, few k))
+write_small k x room = small (write k x room) (λ t h. omega (arith, ap length (position.written_is k x room h).1, position.text_length_lem k x, few k))
   where
     few : (k : Coordinate) → text_length k ≤ 12
     few latitude = omega arith

@@ -158,7 +158,7 @@ module _ (k : Coordinate) where
       → read_fields (read k (take (written_fields (counted (write k x (length out)))).written (lent (write k x (length out)) out))) ≡ record { refusal = 0; ms = x }
   written_reads x out h =
       let t = written_told x (length out) h in
-      let long : value_or 0 (counted (write k x (length out))) ≡ text_length k = t.1.1 ∙ ap length (position.written_is k x (length out) t.1.0).1 ∙ position.text-length k x in
+      let long : value_or 0 (counted (write k x (length out))) ≡ text_length k = t.1.1 ∙ ap length (position.written_is k x (length out) t.1.0).1 ∙ position.text_length_lem k x in
       ap (λ (n : ℕ). read_fields (read k (take n (lent (write k x (length out)) out)))) long ∙ ap read_fields (position.written_reads k x out t.1.0)
 
   -- and what was read is written as the same bytes

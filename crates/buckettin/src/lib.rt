@@ -15,7 +15,7 @@ use datum::ShiftAnswer;
 use kinds::{HeightAnswer, LocalLatitudeAnswer, LocalLongitudeAnswer, Refusal, WrittenAnswer};
 
 #[repr(C)]
-#[derive(Drop)]
+#[derive(Clone, Copy)]
 pub struct Shift {
     pub refusal: u32,
     pub dlat: i32,
@@ -37,7 +37,7 @@ impl Shift {
 }
 
 #[repr(C)]
-#[derive(Drop)]
+#[derive(Clone, Copy)]
 pub struct Geoid {
     pub refusal: u32,
     pub n: i32,
@@ -52,7 +52,7 @@ impl Geoid {
 }
 
 #[repr(C)]
-#[derive(Drop)]
+#[derive(Clone, Copy)]
 pub struct Read {
     pub refusal: u32,
     pub ms: i32,
@@ -67,7 +67,7 @@ impl Read {
 }
 
 #[repr(C)]
-#[derive(Drop)]
+#[derive(Clone, Copy)]
 pub struct Written {
     pub refusal: u32,
     pub written: u32,

@@ -15,7 +15,7 @@ use kinds::{
 use tables::{Datum, Values};
 
 // The shifts of a point from its local datum to WGS 84.
-#[derive(Drop)]
+#[derive(Clone, Copy)]
 pub struct Shifts {
     pub latitude: AngleShift,
     pub longitude: AngleShift,
@@ -35,14 +35,14 @@ impl Shifts {
     }
 }
 
-#[derive(Drop)]
+#[derive(Clone, Copy)]
 pub enum ShiftAnswer {
     Gives(Shifts),
     Refused(Refusal),
 }
 
 // The answer of a datum of either family.
-#[derive(Drop)]
+#[derive(Clone, Copy)]
 pub enum PointAnswer {
     Shift(Shifts),
     Geoid(Height),
@@ -131,7 +131,7 @@ fn asked(geoid: bool, code: i64, latitude: i64, longitude: i64) -> ValuesAnswer
     }
 }
 
-#[derive(Drop)]
+#[derive(Clone, Copy)]
 enum DatumAnswer {
     Gives(Datum),
     Unknown,
@@ -153,7 +153,7 @@ fn coded(code: i64) -> DatumAnswer
     }
 }
 
-#[derive(Drop)]
+#[derive(Clone, Copy)]
 enum ValuesAnswer {
     Gives(Values),
     Refused(Refusal),

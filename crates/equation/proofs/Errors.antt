@@ -88,7 +88,7 @@ module _ {s fine : ℕ} (hs : 0 < s) (hfine : 0 < fine) where
       near_product hs hfine m n (product_error s fine e d m n) hm hn (above (fine * fine * s + 2 * (fine * (e * n + m * d) + e * d)) (mul-pos (mul-pos (lit< tt) hfine) hs)) hx hy
 
   -- a power
-  raised : {u : ℤ} {f : Fraction} {m : ℕ} → nat_abs u ≤ m → Near s fine u f (fine - fine / 2) → (n : ℕ) → Near s fine (power s u n) (f to-the n) (power_error s fine m n)
+  raised : {u : ℤ} {f : Fraction} {m : ℕ} → nat_abs u ≤ m → Near s fine u f (fine - fine / 2) → (n : ℕ) → Near s fine (power s u n) (f to_the n) (power_error s fine m n)
   unfolding power ◌to_the◌
   raised h near zero = near_one
   raised h near (suc zero) = near_one_times near
@@ -96,21 +96,21 @@ module _ {s fine : ℕ} (hs : 0 < s) (hfine : 0 < fine) where
 
   module _ {mu mv : ℕ} {u v : ℤ} {f g : Fraction} (hu : nat_abs u ≤ mu) (hv : nat_abs v ≤ mv) (near-u : Near s fine u f (fine - fine / 2)) (near-v : Near s fine v g (fine - fine / 2)) where
     -- a term's product
-    term_near : (i j : ℕ) → Near s fine (round_div (power s u i *ℤ power s v j) s) (f to-the i times g to-the j) (term_error s fine mu mv i j)
+    term_near : (i j : ℕ) → Near s fine (round_div (power s u i *ℤ power s v j) s) (f to_the i times g to_the j) (term_error s fine mu mv i j)
     unfolding power ◌to_the◌
     term_near zero j =
-        subst (λ (x : ℤ). Near s fine x (f to-the 0 times g to-the j) (power_error s fine mv j)) (sym (ap (λ (x : ℤ). round_div x s) (*ℤ_comm (pos s) (power s v j)) ∙ round_exact (power s v j) hs))
+        subst (λ (x : ℤ). Near s fine x (f to_the 0 times g to_the j) (power_error s fine mv j)) (sym (ap (λ (x : ℤ). round_div x s) (*ℤ_comm (pos s) (power s v j)) ∙ round_exact (power s v j) hs))
         (near_one_times (raised hv near-v j))
     term_near (suc i) zero =
-        subst (λ (x : ℤ). Near s fine x (f to-the (suc i) times g to-the 0) (power_error s fine mu (suc i))) (sym (round_exact (power s u (suc i)) hs))
+        subst (λ (x : ℤ). Near s fine x (f to_the (suc i) times g to_the 0) (power_error s fine mu (suc i))) (sym (round_exact (power s u (suc i)) hs))
         (near_times_one (raised hu near-u (suc i)))
     term_near (suc i) (suc j) =
         multiplied (limit s mu (suc i)) (limit s mv (suc j)) (power_size s hs u hu (suc i)) (power_size s hs v hv (suc j)) (raised hu near-u (suc i)) (raised hv near-v (suc j))
 
     -- the same of the powers as they stand in their lists
-    product_near : (i j : ℕ) → i < 10 → j < 10 → Near s fine (product s i j (powers_of s u 10) (powers_of s v 10)) (f to-the i times g to-the j) (term_error s fine mu mv i j)
+    product_near : (i j : ℕ) → i < 10 → j < 10 → Near s fine (product s i j (powers_of s u 10) (powers_of s v 10)) (f to_the i times g to_the j) (term_error s fine mu mv i j)
     product_near i j hi hj =
-        subst (λ (x : ℤ). Near s fine (round_div x s) (f to-the i times g to-the j) (term_error s fine mu mv i j))
+        subst (λ (x : ℤ). Near s fine (round_div x s) (f to_the i times g to_the j) (term_error s fine mu mv i j))
         (λ n. sym (powers_at s u (pos 0) 10 i hi) n *ℤ sym (powers_at s v (pos 0) 10 j hj) n) (term_near i j)
 
     -- the sum

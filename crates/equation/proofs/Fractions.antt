@@ -108,7 +108,7 @@ one_number {h} {k} {n} {f} x y s v w = abs_zero x y (none (nat_abs (x -ℤ y)) (
     none (suc d) e = absurd (omega (arith, mul-lt-mul_of_pos_right s v.proper))
 
 -- ---- no bottom is zero
-power_proper : (f : Fraction) → 0 < f.bottom → (n : ℕ) → 0 < (f to-the n).bottom
+power_proper : (f : Fraction) → 0 < f.bottom → (n : ℕ) → 0 < (f to_the n).bottom
 unfolding ◌to_the◌
 power_proper f h zero = lit< tt
 power_proper f h (suc n) = mul-pos (power_proper f h n) h
@@ -129,7 +129,7 @@ abbrev pub common : ℕ → ℕ → ℤ → ℤ → List Term → ℤ
 common D n a b [] = pos 0
 common D n a b (term c i j ∷ ts) = c *ℤ (pow a i *ℤ pow b j) *ℤ pos (D ^ (n - (i + j))) +ℤ common D n a b ts
 
-power_is : (a : ℤ) (D n : ℕ) → (a over D) to-the n ≡ pow a n over (D ^ n)
+power_is : (a : ℤ) (D n : ℕ) → (a over D) to_the n ≡ pow a n over (D ^ n)
 unfolding ◌to_the◌ pow one
 power_is a D zero = λ i. pos 1 over sym (pow-zero D) i
 power_is a D (suc n) = λ i. ((power_is a D n i).top *ℤ a) over ((ap (λ (m : ℕ). m * D) (ap (λ (f : Fraction). f.bottom) (power_is a D n)) ∙ sym (pow-suc D n)) i)

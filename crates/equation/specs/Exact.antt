@@ -25,13 +25,13 @@ x times y = (x.top *ℤ y.top) over (x.bottom * y.bottom)
 -- a zeroth power is 1
 infix 80 ◌to_the◌
 unfoldable pub ◌to_the◌ : Fraction → ℕ → Fraction
-x to-the zero = whole (pos 1)
-x to-the (suc n) = x to-the n times x
+x to_the zero = whole (pos 1)
+x to_the (suc n) = x to_the n times x
 
 -- ---- each term is its whole coefficient times its powers of exact U and V; the value is the sum of the terms
 unfoldable pub exact_of : List Term → Fraction → Fraction → Fraction
 exact_of [] exactU exactV = whole (pos 0)
-exact_of (term c i j ∷ ts) exactU exactV = whole c times (exactU to-the i times exactV to-the j) plus exact_of ts exactU exactV
+exact_of (term c i j ∷ ts) exactU exactV = whole c times (exactU to_the i times exactV to_the j) plus exact_of ts exactU exactV
 
 -- ---- a whole number is within h / n of a fraction, whose bottom is above zero
 pub record Within (h n : ℕ) (f : Fraction) (x : ℤ) : Type 0 where

@@ -1,4 +1,6 @@
 // The working rule: the powers of u and of v, and the sum of one equation over its table of terms. It knows no datum.
+#![tactic(auto)]
+
 ghost use Rattle.std.specs.Prelude.{◌≡◌, ◌+◌, ◌<◌, ◌≤◌, pos, nat_abs, length, get_or, take};
 ghost use Rattle.whole.specs.Round.{scale};
 ghost use Rattle.equation.specs.Powers.{powers_of};
@@ -9,7 +11,7 @@ ghost use Rattle.equation.specs.Inside.{size_powers, both_powers, class_sums, jo
 use whole::Parts;
 
 // The ten powers of the sizes of u and of v, which are worked once for a point and passed together to each of its equations.
-#[derive(Drop)]
+#[derive(Clone, Copy)]
 pub struct Powers {
     pub u: [i64; 10],
     pub v: [i64; 10],

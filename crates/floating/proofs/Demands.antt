@@ -124,10 +124,10 @@ module _ (code latitude longitude : ℤ) where
 
   -- 'a refusal number' is the whole answer's, and is never 5
   pub same_refusal : (n : ℕ) → (floating_of code latitude longitude ≡ refused n) ↔ (answer_of code latitude longitude ≡ refused n)
-  same_refusal n = (answers.was-refused (answer_of code latitude longitude), ap answer_in_floats)
+  same_refusal n = (answers.was_refused (answer_of code latitude longitude), ap answer_in_floats)
 
   pub never_5 : floating_of code latitude longitude ≡ refused 5 → ⊥
-  never_5 h = datum.answer-never-5 code latitude longitude ((same_refusal 5).0 h)
+  never_5 h = datum.answer_never_5 code latitude longitude ((same_refusal 5).0 h)
 
   -- ---- demand 3: how near a float is, in units, to the exact value of the printed polynomial
   -- within the bound of its equation and one thousandth of a unit together
@@ -136,7 +136,7 @@ module _ (code latitude longitude : ℤ) where
   within_bounds {floats} h =
       let g = (answered floats).0 h in
       subst (FloatsWithin 1000 (of_each (λ h. h + 1) (bounds_of code)) (exact (page_of code) latitude longitude)) g.1.1
-      (answers.floats-near (bounds_of code) (exact (page_of code) latitude longitude) g.0
+      (answers.floats_near (bounds_of code) (exact (page_of code) latitude longitude) g.0
       (datum.four_bytes is_either code latitude longitude g.1.0) (datum.within_bounds is_either code latitude longitude g.1.0))
 
   -- so within two units of an angle, and one of a height
@@ -145,8 +145,8 @@ module _ (code latitude longitude : ℤ) where
   as_demanded {floats} h =
       let g = (answered floats).0 h in
       let p = (datum.answered is_either code latitude longitude g.0).0 g.1.0 in
-      let e : demanded (page_of code).equations ≡ demanded floats = sym (same_demand _ (page_of code).equations) ∙ ap demanded p.1.1 ∙ sym (answers.float-demand g.0) ∙ ap demanded g.1.1 in
-      answers.floats-wider 1000 1 (lit< tt) (of_each (λ h. h + 1) (bounds_of code)) (demanded floats) (exact (page_of code) latitude longitude) floats
+      let e : demanded (page_of code).equations ≡ demanded floats = sym (same_demand _ (page_of code).equations) ∙ ap demanded p.1.1 ∙ sym (answers.float_demand g.0) ∙ ap demanded g.1.1 in
+      answers.floats_wider 1000 1 (lit< tt) (of_each (λ h. h + 1) (bounds_of code)) (demanded floats) (exact (page_of code) latitude longitude) floats
       (subst (λ (d : Family ℕ). T (no_narrower 1000 1 (of_each (λ h. h + 1) (bounds_of code)) d)) e (row_float_demanded (row code)))
       (within_bounds h)
 
@@ -177,7 +177,7 @@ module _ (code latitude longitude : ℤ) where
   -- 'or 0 for an answered point', and for no other
   pub answered_0 : (refusal_of (floating_of code latitude longitude) ≡ 0) ↔ ((floats : Family Float) × (floating_of code latitude longitude ≡ gives floats))
   answered_0 = (
-    (λ h. told (floating_of code latitude longitude) (λ n e. datum.above_0 is_either code latitude longitude n (answers.was-refused (answer_of code latitude longitude) e)) h),
+    (λ h. told (floating_of code latitude longitude) (λ n e. datum.above_0 is_either code latitude longitude n (answers.was_refused (answer_of code latitude longitude) e)) h),
     (λ p. ap refusal_of p.1),
   )
 

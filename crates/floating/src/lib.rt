@@ -10,7 +10,7 @@ use datum::{PointAnswer, Shifts};
 use kinds::{AngleShift, Height};
 
 // The shifts of a point: of latitude and longitude in seconds, of height in metres.
-#[derive(Drop)]
+#[derive(Clone, Copy)]
 pub struct ShiftFloats {
     pub latitude: f64,
     pub longitude: f64,
@@ -18,7 +18,7 @@ pub struct ShiftFloats {
 }
 
 // The answer of a datum of either family: its shifts, its geoid height in metres, or the number of the refusal.
-#[derive(Drop)]
+#[derive(Clone, Copy)]
 pub enum Answer {
     Shift(ShiftFloats),
     Geoid(f64),

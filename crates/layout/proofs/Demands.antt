@@ -51,7 +51,7 @@ listed_where listed code = ((λ h. listed_at listed code h), (λ there. subst (�
 module _ (unit : ℤ) (bytes : List ℕ) where
   -- a sheet is read exactly where every test holds, and then its counts are given
   pub read_where : (layout : Layout) → (read_of unit bytes ≡ gives layout) ↔ (AllHold (serial_tests unit bytes ++ count_tests bytes) × (counts bytes ≡ layout))
-  read_where layout = subst (λ (a : Answer Layout). (a ≡ gives layout) ↔ (AllHold (front unit bytes) × (counts bytes ≡ layout))) (sym (in_front unit bytes)) (kinds.given-where (front unit bytes) (counts bytes) layout)
+  read_where layout = subst (λ (a : Answer Layout). (a ≡ gives layout) ↔ (AllHold (front unit bytes) × (counts bytes ≡ layout))) (sym (in_front unit bytes)) (kinds.given_where (front unit bytes) (counts bytes) layout)
 
   -- and is refused exactly with the number of the first test that does not hold
   pub refused_where : (n : ℕ) → (read_of unit bytes ≡ refused n) ↔ FirstFails (serial_tests unit bytes ++ count_tests bytes) n

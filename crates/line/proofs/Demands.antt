@@ -117,7 +117,7 @@ orders = record { empty = refl; too_long = refl; length_and_kind = refl; code_an
 -- the answer of a line is that of its point
 of_point : (line : List ℕ) {values : Family ℤ} → answer_to line ≡ gives values → answer_of (code line) (latitude_of line) (longitude_of line) ≡ gives values
 of_point line {values} h =
-    let (a, (b, (c, _))) = ((kinds.given-where (tests line) _ values).0 h).0 in
+    let (a, (b, (c, _))) = ((kinds.given_where (tests line) _ values).0 h).0 in
     sym (answered_as line (a, (b, (c, tt)))) ∙ h
 
 -- ---- demand 3: each number of an answer is within 2, 2 and 1 units of the exact value
@@ -128,7 +128,7 @@ near line h = datum.as_demanded is_either (code line) (latitude_of line) (longit
 -- two answers that are printed alike are the same
 pub answers_apart : (line other : List ℕ) {v w : Family ℤ} → answer_to line ≡ gives v → answer_to other ≡ gives w → answer_line v ≡ answer_line w → v ≡ w
 answers_apart line other {v} {w} h k same =
-    lines.lines-apart v w
+    lines.lines_apart v w
     (datum.four_bytes is_either (code line) (latitude_of line) (longitude_of line) (of_point line h))
     (datum.four_bytes is_either (code other) (latitude_of other) (longitude_of other) (of_point other k))
     same

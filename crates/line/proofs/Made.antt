@@ -39,20 +39,20 @@ module _ (digit : ℕ) (north east : ℤ) where
 
   made_long : length made ≡ 26
   unfolding line_bytes
-  made_long = omega (arith, length-append (text latitude north) (space ∷ text longitude east), position.text-length latitude north, position.text-length longitude east)
+  made_long = omega (arith, length-append (text latitude north) (space ∷ text longitude east), position.text_length_lem latitude north, position.text_length_lem longitude east)
 
   north_text : latitude_text made ≡ text latitude north
   unfolding line_bytes
-  north_text = take_at (text latitude north) (space ∷ text longitude east) 11 (position.text-length latitude north)
+  north_text = take_at (text latitude north) (space ∷ text longitude east) 11 (position.text_length_lem latitude north)
 
   after_north : drop 13 made ≡ space ∷ text longitude east
   unfolding line_bytes
-  after_north = drop_at (text latitude north) (space ∷ text longitude east) 11 (position.text-length latitude north)
+  after_north = drop_at (text latitude north) (space ∷ text longitude east) 11 (position.text_length_lem latitude north)
 
   east_text : longitude_text made ≡ text longitude east
   east_text =
       ap (take 12) (sym (drop-drop 1 13 made) ∙ ap (drop 1) after_north)
-      ∙ take_all 12 (text longitude east) (omega (arith, position.text-length longitude east))
+      ∙ take_all 12 (text longitude east) (omega (arith, position.text_length_lem longitude east))
 
   second_space : get_or made 13 0 ≡ space
   second_space =
@@ -65,10 +65,10 @@ module _ (digit : ℕ) (north east : ℤ) where
 
   module _ (d : digit < 10) (n : has_text latitude north ≡ true) (e : has_text longitude east ≡ true) where
     north_kept : (right_kinds latitude (latitude_text made) ≡ true) × ((right_ranges latitude (latitude_text made) ≡ true) × (latitude_of made ≡ north))
-    north_kept = tests_kept latitude (latitude_text made) (ap (read latitude) north_text ∙ position.text-reads latitude north n)
+    north_kept = tests_kept latitude (latitude_text made) (ap (read latitude) north_text ∙ position.text_reads latitude north n)
 
     east_kept : (right_kinds longitude (longitude_text made) ≡ true) × ((right_ranges longitude (longitude_text made) ≡ true) × (longitude_of made ≡ east))
-    east_kept = tests_kept longitude (longitude_text made) (ap (read longitude) east_text ∙ position.text-reads longitude east e)
+    east_kept = tests_kept longitude (longitude_text made) (ap (read longitude) east_text ∙ position.text_reads longitude east e)
 
     digit_kept : is_digit (code_byte made) ≡ true
     unfolding line_bytes

@@ -28,7 +28,7 @@ pub fn line(text: &[u8], out: &mut [u8]) -> WrittenAnswer
 }
 
 // How a line is answered: with numbers, as above, or with the waypoint of its point, for the drawing office.
-#[derive(Drop)]
+#[derive(Clone, Copy)]
 pub enum Form {
     Numbers,
     Waypoints,
@@ -56,14 +56,14 @@ pub const ANSWER: usize = 36;
 pub const WAYPOINT: usize = ELEMENT + 1;
 
 // A point as a line says it.
-#[derive(Drop)]
+#[derive(Clone, Copy)]
 struct Place {
     code: i64,
     latitude: LocalLatitude,
     longitude: LocalLongitude,
 }
 
-#[derive(Drop)]
+#[derive(Clone, Copy)]
 enum PlaceAnswer {
     Gives(Place),
     Refused(Refusal),

@@ -14,7 +14,7 @@ use Rattle.numbers.proofs.Numbers as numbers
 
 -- a number is read back from its bytes, and bytes are written back from their number
 pub number_back : (w n : ℕ) → n < 256 ^ w → number (in_bytes w n) ≡ n
-number_back w n h = numbers.number-back w n h
+number_back w n h = numbers.number_back w n h
 
 pub bytes_back : (bytes : List ℕ) → are_bytes bytes ≡ true → in_bytes (length bytes) (number bytes) ≡ bytes
 bytes_back bytes h = numbers.bytes_back bytes h

@@ -1,4 +1,6 @@
 // Big-endian numbers in bytes.
+#![tactic(auto)]
+
 ghost use Rattle.std.specs.Prelude.{◌≡◌, ◌+◌, ◌<◌, ◌≤◌, length};
 ghost use Rattle.kinds.specs.Bytes.{part};
 ghost use Rattle.numbers.specs.Numbers.{number, in_bytes, complement, signed};

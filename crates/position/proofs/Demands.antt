@@ -16,11 +16,11 @@ use Rattle.position.proofs.Trip as trip
 -- a number in range is written where there is room for its text
 pub writes : (k : Coordinate) (x : ℤ) (room : ℕ) → has_text k x ≡ true → text_length k ≤ room → write k x room ≡ gives (text k x)
 unfolding write
-writes k x room h r = (written_where (write_tests k x) (text k x) room refl (text k x)).1 ((h, tt), (omega (arith, trip.text-length k x), refl))
+writes k x room h r = (written_where (write_tests k x) (text k x) room refl (text k x)).1 ((h, tt), (omega (arith, trip.text_length_lem k x), refl))
 
 -- which is 11 bytes for a latitude and 12 for a longitude
 pub text_length_lem : (k : Coordinate) (x : ℤ) → length (text k x) ≡ text_length k
-text_length_lem k x = trip.text-length k x
+text_length_lem k x = trip.text_length_lem k x
 
 -- ---- 'so each number has one text'
 -- the text of every number in range is read as that number
@@ -157,9 +157,9 @@ module _ (k : Coordinate) (x : ℤ) (room : ℕ) where
       let at = unwritten_where (write_tests k x) (text k x) room refl 7 in (
         (λ h.
             ⊎_elim (⊎_elim (λ f. absurd (omega (arith, f.1))) (λ f. absurd f.1))
-            (λ p. (p.0.0, omega (arith, trip.text-length k x, p.1.0)))
+            (λ p. (p.0.0, omega (arith, trip.text_length_lem k x, p.1.0)))
             (at.0 h)),
-        (λ h. at.1 (inr ((h.0, tt), (omega (arith, trip.text-length k x, h.1), refl)))),
+        (λ h. at.1 (inr ((h.0, tt), (omega (arith, trip.text_length_lem k x, h.1), refl)))),
       )
 
   pub written_one_of : (n : ℕ) → write k x room ≡ refused n → (n ≡ 3) ⊎ (n ≡ 7)

@@ -154,7 +154,7 @@ module _ (unit : ℤ) (bytes : List ℕ) (room : ℕ) {result : List ℕ} (h : w
   same_count =
       let (_, (_, (_, (_, (_, (_, (_, (_, (most, _))))))))) = ((worked_where unit bytes room result).0 h).0 in
       let few : count bytes ≤ 500 = leb-true (count bytes) 500 most in
-      sym (ap (λ (r : List ℕ). number (part 4 2 r)) is_result) ∙ ap number (places.count_at bytes) ∙ numbers.number-back 2 (count bytes) (omega arith)
+      sym (ap (λ (r : List ℕ). number (part 4 2 r)) is_result) ∙ ap number (places.count_at bytes) ∙ numbers.number_back 2 (count bytes) (omega arith)
 
   -- ---- 'then 13 bytes a point': at each place, the answer for the point at that place of the sheet
   module _ (k : ℕ) (place : k < count bytes) where
@@ -171,10 +171,10 @@ module _ (unit : ℤ) (bytes : List ℕ) (room : ℕ) {result : List ℕ} (h : w
     record_at_lem = sym (ap (record_at k) is_result) ∙ places.record_at_lem bytes k place
 
     pub refusal_at : record_refusal (record_at k result) ≡ refusal_of (answer_at (point_at k bytes))
-    refusal_at = ap record_refusal record_at_lem ∙ (places.point-says (point_at k bytes)).0
+    refusal_at = ap record_refusal record_at_lem ∙ (places.point_says (point_at k bytes)).0
 
     pub numbers_at : record_numbers (record_at k result) ≡ values_of (pos 0) (answer_at (point_at k bytes))
-    numbers_at = ap record_numbers record_at_lem ∙ (places.point-says (point_at k bytes)).1
+    numbers_at = ap record_numbers record_at_lem ∙ (places.point_says (point_at k bytes)).1
 
     code_is : is_code (pos code) ≡ true
     code_is =
@@ -216,7 +216,7 @@ module _ (unit : ℤ) (bytes : List ℕ) (room : ℕ) {result : List ℕ} (h : w
         go (refused n) e =
             let is-n : record_refusal (record_at k result) ≡ n = refusal_at ∙ ap refusal_of e in
             ⊎_elim (λ four. absurd (false≢true (sym ((datum.given_4 is_either (pos code) latitude longitude).0 (e ∙ ap refused four)) ∙ code_is)))
-            (⊎_elim (λ five. absurd (datum.answer-never-5 (pos code) latitude longitude (e ∙ ap refused five)))
+            (⊎_elim (λ five. absurd (datum.answer_never_5 (pos code) latitude longitude (e ∙ ap refused five)))
             (⊎_elim (λ three. inr (inl (is-n ∙ three))) (λ six. inr (inr (is-n ∙ six)))))
             (datum.given_one_of is_either (pos code) latitude longitude n e)
 

@@ -34,11 +34,11 @@ use Rattle.stream.proofs.Feeding as feeding
 -- ---- 'It reads standard input, one point a line'
 -- the lines that end, each with its line feed, and then what is begun are the input again
 pub input_again : (input : List ℕ) → terminated (ended [] input) ++ begun_after [] input ≡ input
-input_again input = law.input-again [] input
+input_again input = law.input_again [] input
 
 -- no line feed is in any of them
 pub all_unbroken : (input : List ℕ) → (every unbroken (ended [] input) ≡ true) × (unbroken (begun_after [] input) ≡ true)
-all_unbroken input = (law.ended-unbroken [] input refl, law.begun-unbroken [] input refl)
+all_unbroken input = (law.ended_unbroken [] input refl, law.begun_unbroken [] input refl)
 
 -- and no other lines are so: whatever lines the input is made of, it is read as these
 pub no_others : (ls : List (List ℕ)) (begun : List ℕ) → every unbroken ls ≡ true → unbroken begun ≡ true
@@ -54,7 +54,7 @@ next_line line rest h = λ i. law.line_ends [] line rest h i ++ last (law.begins
 pub last_counts : (input : List ℕ) → (begun_after [] input ≡ [] → ⊥) → lines (input ++ line_feed ∷ []) ≡ lines input
 unfolding ended begun_after
 last_counts input h =
-    (λ i. law.ended-pieces [] input (line_feed ∷ []) i ++ last (law.begun-pieces [] input (line_feed ∷ []) i))
+    (λ i. law.ended_pieces [] input (line_feed ∷ []) i ++ last (law.begun_pieces [] input (line_feed ∷ []) i))
     ∙ append-nil (ended [] input ++ begun_after [] input ∷ [])
     ∙ ap (λ (ls : List (List ℕ)). ended [] input ++ ls) (sym (some (begun_after [] input) h))
   where
@@ -65,7 +65,7 @@ last_counts input h =
 -- and a line feed at the very end begins no further line
 pub none_follows : (input : List ℕ) → begun_after [] (input ++ line_feed ∷ []) ≡ []
 unfolding begun_after
-none_follows input = law.begun-pieces [] input (line_feed ∷ [])
+none_follows input = law.begun_pieces [] input (line_feed ∷ [])
 
 -- ---- 'It reads at most 100,000,000 bytes and then goes on as if the input ended there'
 -- an input no longer than that is answered as a whole
@@ -159,7 +159,7 @@ unfolding after
 in_two reading xs ys =
     let form : Form = reading.form in
     let begun : List ℕ = held reading.begun in
-    let line = print.begun_kept (begun_after begun xs) ys ∙ ap kept (sym (law.begun-pieces begun xs ys)) in
+    let line = print.begun_kept (begun_after begun xs) ys ∙ ap kept (sym (law.begun_pieces begun xs ys)) in
     let left : reading.left - length xs - length ys ≡ reading.left - length (xs ++ ys) = omega (arith, length-append xs ys) in
     (ap (λ (l : List ℕ). answers form begun xs ++ l) (print.answers_kept form (begun_after begun xs) ys) ∙ sym (print.answers_pieces form begun xs ys), λ i. record { form = form; begun = line i; left = left i })
 
@@ -183,7 +183,7 @@ module _ (form : Form) where
       (λ i. print.answers_kept form line p i ++ fed (record { form = form; begun = print.begun_kept line p i; left = left - length p }) pieces)
       ∙ ap (λ (l : List ℕ). answers form line p ++ l) (fed_from (begun_after line p) (left - length p) pieces)
       ∙ sym (append_assoc (answers form line p) (answers form (begun_after line p) q) _)
-      ∙ (λ i. sym (print.answers_pieces form line p q) i ++ flat_map (printed form) (last (sym (law.begun-pieces line p q) i)))
+      ∙ (λ i. sym (print.answers_pieces form line p q) i ++ flat_map (printed form) (last (sym (law.begun_pieces line p q) i)))
       ∙ ap (λ (l : List ℕ). answers form line l ++ flat_map (printed form) (last (begun_after line l))) (law.first_pieces left piece (flatten pieces))
 
   -- so any pieces, between the head and the foot, are answered as the input that they are together, up to the limit

@@ -12,14 +12,14 @@ use numbers::one;
 use whole::least;
 
 // The first bytes of a line whose line feed has not come. Of a longer line 27 are kept, which are refused as it is.
-#[derive(Drop)]
+#[derive(Clone, Copy)]
 pub struct Begun {
     bytes: [u8; KEPT],
     count: usize,
 }
 
 // An input that is being read: the form of its answers, the line that is begun, and how many more bytes of it may be taken.
-#[derive(Drop)]
+#[derive(Clone, Copy)]
 pub struct Reading {
     form: Form,
     begun: Begun,
@@ -27,7 +27,7 @@ pub struct Reading {
 }
 
 // What a call took and put, and the reading after it.
-#[derive(Drop)]
+#[derive(Clone, Copy)]
 pub struct Fed {
     pub reading: Reading,
     pub taken: usize,

@@ -50,8 +50,8 @@ module _ (code latitude longitude : ℤ) (room : ℕ) where
   -- 5 of a geoid datum
   pub given_5 : (waypoint_of code latitude longitude room ≡ refused 5) ↔ (within (pos 5) (pos 6) code ≡ true)
   given_5 = (
-    (λ h. ⊎_elim (λ s. (datum.shift-5 code latitude longitude).0 s) (λ (north, (east, (c, (short, other)))). absurd (omega (arith, other))) ((refused_where 5).0 h)),
-    (λ h. (refused_where 5).1 (inl ((datum.shift-5 code latitude longitude).1 h))),
+    (λ h. ⊎_elim (λ s. (datum.shift_5 code latitude longitude).0 s) (λ (north, (east, (c, (short, other)))). absurd (omega (arith, other))) ((refused_where 5).0 h)),
+    (λ h. (refused_where 5).1 (inl ((datum.shift_5 code latitude longitude).1 h))),
   )
 
   -- an element has at most 47 bytes
@@ -64,14 +64,14 @@ module _ (code latitude longitude : ℤ) (room : ℕ) where
 -- from the printed degrees the units are found again, the whole number of them: of a latitude, and of a longitude, which is a turn
 -- less from 180° up. That the digits say the degrees is `nine_say` of crate decimal
 pub latitude_again : (north : ℤ) → units_of (degrees north) ≡ north
-latitude_again north = law.units-again north
+latitude_again north = law.units_again north
 
 pub longitude_again : (east : ℤ) → units_of (east_or_west (degrees east)) ≡ west_as_negative east
-longitude_again east = ap units_of (law.wrapped-first east) ∙ law.units-again (west_as_negative east)
+longitude_again east = ap units_of (law.wrapped_first east) ∙ law.units_again (west_as_negative east)
 
 -- so two points that get the same element, of one datum or of two, have the same converted position
 pub elements_apart : (c₁ a₁ o₁ c₂ a₂ o₂ : ℤ) {bytes : List ℕ} → element_of c₁ a₁ o₁ ≡ gives bytes → element_of c₂ a₂ o₂ ≡ gives bytes → converted_of c₁ a₁ o₁ ≡ converted_of c₂ a₂ o₂
-elements_apart = apart.elements-apart
+elements_apart = apart.elements_apart
 
 -- ---- 'longitude from -180 up to but not 180', and a latitude between the poles: in billionths of a degree
 pub degrees_between : (code latitude longitude north east : ℤ) → converted_of code latitude longitude ≡ gives (north, east)
@@ -79,7 +79,7 @@ pub degrees_between : (code latitude longitude north east : ℤ) → converted_o
     × (within (neg_ℤ (pos 180000000000)) (pos 179999999999) (east_or_west (degrees east)) ≡ true)
 degrees_between code latitude longitude north east h =
     let (low, near) = datum.converted_between code latitude longitude north east h in
-    (law.latitude-between north low, law.longitude_between east near)
+    (law.latitude_between north low, law.longitude_between east near)
 
 -- ---- 'the centre of code 1 gives'
 pub centre_of_code_1 : waypoint_of (pos 1) (pos 126000000) (pos 118800000) 44 ≡ gives (ascii "<wpt lat=\"34.998932533\" lon=\"32.999693628\"/>")

@@ -1,0 +1,18 @@
+use Rattle.std.proofs.Common.{refl, ap, ◌∙◌, arith, List}
+use lib.Seq.{take_all}
+use Rattle.equation.specs.Equation.{Term, terms}
+use Rattle.equation.specs.Inside.{class_sum, class_sums}
+use Rattle.equation.proofs.Sums.{length_terms}
+use Rattle.equation.proofs.class_sums.Goals as goal
+
+pub loop-from-init : goal.loop-from-init
+unfolding class_sum
+loop-from-init c = record { within = omega arith; so_far = refl }
+
+pub returns : goal.returns
+returns c =
+    let ts = terms c.args.coefficients.now c.args.us.now c.args.vs.now in
+    c.loop-from.invariant.so_far
+    ∙ ap (λ (l : List Term). class_sums l c.args.pu c.args.pv)
+    (take_all c.loop-from.from ts
+    (omega (arith, c.loop-from-test.false, length_terms c.args.coefficients.now c.args.us.now c.args.vs.now c.requires.us_len.0 c.requires.us_len.1)))
