@@ -1,4 +1,6 @@
 // The six codes: the shift or the geoid height of a point, by the tables of its datum.
+#![tactic(auto)]
+
 ghost use Rattle.std.specs.Prelude.{◌≡◌};
 ghost use Rattle.kinds.specs.Answer.{gives, provided};
 ghost use Rattle.kinds.specs.Cases.{local_position, wgs84_position};

@@ -1,4 +1,6 @@
 // The answers of `datum` as 64-bit floats, for the map program: the whole answer made a float without loss, divided once.
+#![tactic(auto)]
+
 ghost use Rattle.std.specs.Prelude.{◌≡◌};
 ghost use Rattle.kinds.specs.Answer.{refusal_of};
 ghost use Rattle.datum.specs.Point.{first_of, second_of, third_of, values_of};

@@ -1,4 +1,6 @@
 // One line in, one line out: a point as text, and its shift or geoid height as it is printed, or its waypoint.
+#![tactic(auto)]
+
 ghost use Rattle.std.specs.Prelude.{◌≡◌, [], ◌∷◌, ◌++◌, ◌+◌, ◌≤◌, length, drop};
 ghost use Rattle.kinds.specs.Answer.{number_of, placed, counted, lent};
 ghost use Rattle.kinds.specs.Cases.{local_longitude, written};

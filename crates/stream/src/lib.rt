@@ -1,5 +1,7 @@
 // An input that comes in pieces, a line of it at a time: what is begun of a line is carried from piece to piece, and how many more
 // bytes may be taken; and in which form its lines are answered.
+#![tactic(auto)]
+
 ghost use Rattle.std.specs.Prelude.{◌≡◌, true, [], ◌++◌, ◌+◌, ◌<◌, ◌≤◌, length, take, drop};
 ghost use Rattle.kinds.specs.Bytes.{part};
 ghost use Rattle.line.specs.declared.Form.TheVariants.{Numbers, Waypoints};
