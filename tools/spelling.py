@@ -83,6 +83,8 @@ def main():
     def add(name, path):
         if name not in imported and snake(name) != name:
             names[name] = snake(name)
+            if name[0] == '◌' and name[-1] == '◌':    # where it is used, between its arguments
+                names[name[1:-1]] = snake(name)[1:-1]
             where[names[name]].add(name)
 
     for path in shared:

@@ -1,5 +1,7 @@
 // What C calls, and nothing else. include/buckettin.h declares it, with units, ranges, refusals and an example of each call.
 // An answer is numbers, the refusal first: 0, or document 01's number with zeros beside it.
+#![tactic(auto)]
+
 ghost use Rattle.std.specs.Prelude.{◌≡◌, ◌<◌, length};
 ghost use Rattle.kinds.specs.Answer.{number_of, refusal_of, counted, lent};
 ghost use Rattle.kinds.specs.Cases.{written};
@@ -15,7 +17,7 @@ use datum::ShiftAnswer;
 use kinds::{HeightAnswer, LocalLatitudeAnswer, LocalLongitudeAnswer, Refusal, WrittenAnswer};
 
 #[repr(C)]
-#[derive(Drop)]
+#[derive(Clone, Copy)]
 pub struct Shift {
     pub refusal: u32,
     pub dlat: i32,
@@ -37,7 +39,7 @@ impl Shift {
 }
 
 #[repr(C)]
-#[derive(Drop)]
+#[derive(Clone, Copy)]
 pub struct Geoid {
     pub refusal: u32,
     pub n: i32,
@@ -52,7 +54,7 @@ impl Geoid {
 }
 
 #[repr(C)]
-#[derive(Drop)]
+#[derive(Clone, Copy)]
 pub struct Read {
     pub refusal: u32,
     pub ms: i32,
@@ -67,7 +69,7 @@ impl Read {
 }
 
 #[repr(C)]
-#[derive(Drop)]
+#[derive(Clone, Copy)]
 pub struct Written {
     pub refusal: u32,
     pub written: u32,
@@ -81,8 +83,7 @@ impl Written {
     }
 }
 
-#[unsafe(no_mangle)]
-pub extern "C" fn buckettin_shift(code: i64, latitude_ms: i64, longitude_ms: i64) -> Shift
+pub fn buckettin_shift(code: i64, latitude_ms: i64, longitude_ms: i64) -> Shift
     ensures { result ≡ shift_fields (shift_of code latitude_ms longitude_ms) }
 {
     match datum::shift(code, latitude_ms, longitude_ms) {
@@ -96,8 +97,7 @@ pub extern "C" fn buckettin_shift(code: i64, latitude_ms: i64, longitude_ms: i64
     }
 }
 
-#[unsafe(no_mangle)]
-pub extern "C" fn buckettin_geoid(code: i64, latitude_ms: i64, longitude_ms: i64) -> Geoid
+pub fn buckettin_geoid(code: i64, latitude_ms: i64, longitude_ms: i64) -> Geoid
     ensures { result ≡ geoid_fields (geoid_of code latitude_ms longitude_ms) }
 {
     match datum::geoid(code, latitude_ms, longitude_ms) {
@@ -106,36 +106,31 @@ pub extern "C" fn buckettin_geoid(code: i64, latitude_ms: i64, longitude_ms: i64
     }
 }
 
-#[unsafe(no_mangle)]
-pub extern "C" fn buckettin_first(code: i64, latitude_ms: i64, longitude_ms: i64) -> f64
+pub fn buckettin_first(code: i64, latitude_ms: i64, longitude_ms: i64) -> f64
     ensures { result ≡ first_of float_zero (floating_of code latitude_ms longitude_ms) }
 {
     floating::first(code, latitude_ms, longitude_ms)
 }
 
-#[unsafe(no_mangle)]
-pub extern "C" fn buckettin_second(code: i64, latitude_ms: i64, longitude_ms: i64) -> f64
+pub fn buckettin_second(code: i64, latitude_ms: i64, longitude_ms: i64) -> f64
     ensures { result ≡ second_of float_zero (floating_of code latitude_ms longitude_ms) }
 {
     floating::second(code, latitude_ms, longitude_ms)
 }
 
-#[unsafe(no_mangle)]
-pub extern "C" fn buckettin_third(code: i64, latitude_ms: i64, longitude_ms: i64) -> f64
+pub fn buckettin_third(code: i64, latitude_ms: i64, longitude_ms: i64) -> f64
     ensures { result ≡ third_of float_zero (floating_of code latitude_ms longitude_ms) }
 {
     floating::third(code, latitude_ms, longitude_ms)
 }
 
-#[unsafe(no_mangle)]
-pub extern "C" fn buckettin_refusal(code: i64, latitude_ms: i64, longitude_ms: i64) -> u32
+pub fn buckettin_refusal(code: i64, latitude_ms: i64, longitude_ms: i64) -> u32
     ensures { result ≡ refusal_of (floating_of code latitude_ms longitude_ms) }
 {
     floating::refusal(code, latitude_ms, longitude_ms) as u32
 }
 
-#[unsafe(no_mangle)]
-pub extern "C" fn buckettin_read_latitude(text: &[u8]) -> Read
+pub fn buckettin_read_latitude(text: &[u8]) -> Read
     ensures { result ≡ read_fields (read latitude text.now) }
 {
     match position::read_latitude(text) {
@@ -144,8 +139,7 @@ pub extern "C" fn buckettin_read_latitude(text: &[u8]) -> Read
     }
 }
 
-#[unsafe(no_mangle)]
-pub extern "C" fn buckettin_read_longitude(text: &[u8]) -> Read
+pub fn buckettin_read_longitude(text: &[u8]) -> Read
     ensures { result ≡ read_fields (read longitude text.now) }
 {
     match position::read_longitude(text) {
@@ -154,40 +148,35 @@ pub extern "C" fn buckettin_read_longitude(text: &[u8]) -> Read
     }
 }
 
-#[unsafe(no_mangle)]
-pub extern "C" fn buckettin_write_latitude(latitude_ms: i64, out: &mut [u8]) -> Written
+pub fn buckettin_write_latitude(latitude_ms: i64, out: &mut [u8]) -> Written
     ensures value { result ≡ written_fields (counted (write latitude latitude_ms (length out.old))) }
     ensures out_after { out.new ≡ lent (write latitude latitude_ms (length out.old)) out.old }
 {
     in_numbers(position::write_latitude(latitude_ms, out))
 }
 
-#[unsafe(no_mangle)]
-pub extern "C" fn buckettin_write_longitude(longitude_ms: i64, out: &mut [u8]) -> Written
+pub fn buckettin_write_longitude(longitude_ms: i64, out: &mut [u8]) -> Written
     ensures value { result ≡ written_fields (counted (write longitude longitude_ms (length out.old))) }
     ensures out_after { out.new ≡ lent (write longitude longitude_ms (length out.old)) out.old }
 {
     in_numbers(position::write_longitude(longitude_ms, out))
 }
 
-#[unsafe(no_mangle)]
-pub extern "C" fn buckettin_sheet(unit_serial: i64, sheet: &[u8], res: &mut [u8]) -> Written
+pub fn buckettin_sheet(unit_serial: i64, sheet: &[u8], res: &mut [u8]) -> Written
     ensures value { result ≡ written_fields (counted (work_of unit_serial sheet.now (length res.old))) }
     ensures res_after { res.new ≡ lent (work_of unit_serial sheet.now (length res.old)) res.old }
 {
     in_numbers(sheet::work(unit_serial, sheet, res))
 }
 
-#[unsafe(no_mangle)]
-pub extern "C" fn buckettin_line(line: &[u8], out: &mut [u8]) -> Written
+pub fn buckettin_line(line: &[u8], out: &mut [u8]) -> Written
     ensures value { result ≡ written_fields (counted (line_of line.now (length out.old))) }
     ensures out_after { out.new ≡ lent (line_of line.now (length out.old)) out.old }
 {
     in_numbers(line::line(line, out))
 }
 
-#[unsafe(no_mangle)]
-pub extern "C" fn buckettin_waypoint(
+pub fn buckettin_waypoint(
     code: i64,
     latitude_ms: i64,
     longitude_ms: i64,

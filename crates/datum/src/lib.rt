@@ -1,4 +1,6 @@
 // The six codes: the shift or the geoid height of a point, by the tables of its datum.
+#![tactic(auto)]
+
 ghost use Rattle.std.specs.Prelude.{◌≡◌};
 ghost use Rattle.kinds.specs.Answer.{gives, provided};
 ghost use Rattle.kinds.specs.Cases.{local_position, wgs84_position};
@@ -15,7 +17,7 @@ use kinds::{
 use tables::{Datum, Values};
 
 // The shifts of a point from its local datum to WGS 84.
-#[derive(Drop)]
+#[derive(Clone, Copy)]
 pub struct Shifts {
     pub latitude: AngleShift,
     pub longitude: AngleShift,
@@ -35,14 +37,14 @@ impl Shifts {
     }
 }
 
-#[derive(Drop)]
+#[derive(Clone, Copy)]
 pub enum ShiftAnswer {
     Gives(Shifts),
     Refused(Refusal),
 }
 
 // The answer of a datum of either family.
-#[derive(Drop)]
+#[derive(Clone, Copy)]
 pub enum PointAnswer {
     Shift(Shifts),
     Geoid(Height),
@@ -131,7 +133,7 @@ fn asked(geoid: bool, code: i64, latitude: i64, longitude: i64) -> ValuesAnswer
     }
 }
 
-#[derive(Drop)]
+#[derive(Clone, Copy)]
 enum DatumAnswer {
     Gives(Datum),
     Unknown,
@@ -153,7 +155,7 @@ fn coded(code: i64) -> DatumAnswer
     }
 }
 
-#[derive(Drop)]
+#[derive(Clone, Copy)]
 enum ValuesAnswer {
     Gives(Values),
     Refused(Refusal),

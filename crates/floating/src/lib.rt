@@ -1,4 +1,6 @@
 // The answers of `datum` as 64-bit floats, for the map program: the whole answer made a float without loss, divided once.
+#![tactic(auto)]
+
 ghost use Rattle.std.specs.Prelude.{◌≡◌};
 ghost use Rattle.kinds.specs.Answer.{refusal_of};
 ghost use Rattle.datum.specs.Point.{first_of, second_of, third_of, values_of};
@@ -10,7 +12,7 @@ use datum::{PointAnswer, Shifts};
 use kinds::{AngleShift, Height};
 
 // The shifts of a point: of latitude and longitude in seconds, of height in metres.
-#[derive(Drop)]
+#[derive(Clone, Copy)]
 pub struct ShiftFloats {
     pub latitude: f64,
     pub longitude: f64,
@@ -18,7 +20,7 @@ pub struct ShiftFloats {
 }
 
 // The answer of a datum of either family: its shifts, its geoid height in metres, or the number of the refusal.
-#[derive(Drop)]
+#[derive(Clone, Copy)]
 pub enum Answer {
     Shift(ShiftFloats),
     Geoid(f64),

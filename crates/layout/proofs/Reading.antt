@@ -8,7 +8,7 @@ use native.Mathlib.Omega.{arith}
 use lib.Dec.{eqb, leb}
 use lib.IntN.{ℤ, pos, negsuc}
 use lib.ListN.{length, take, drop}
-use borrow.Author.Tests.{leb-true, eqb-true, eqb-false, le-leb, lt-leb, eq-eqb, ne_eqb, not-true, not-false}
+use borrow.Author.Tests.{leb-true, eqb-true, eqb-false, le-leb, lt-leb, eq-eqb, ne_eqb}
 use mir.Syntax.{w64}
 use mir.Val.{SFits, of_z}
 use Rattle.kinds.specs.Answer.{Answer, gives, refused, Test, in_order, FirstFails}
@@ -108,12 +108,12 @@ module _ (t : List ℕ) where
         three : leb (5 + datums t) (length t) ≡ true
         three = le-leb (5 + datums t) (length t) (omega (arith, listed, is-d))
 
-        pub codes_wrong : not r ≡ true → refused 9 ≡ laid_out t
-        codes_wrong h = stops 9 (inr (one, inr (two, inr (three, inl (sym is-r ∙ not-true r h, refl)))))
+        pub codes_wrong : r ≡ false → refused 9 ≡ laid_out t
+        codes_wrong h = stops 9 (inr (one, inr (two, inr (three, inl (sym is-r ∙ h, refl)))))
 
-        module _ (right : not r ≡ false) where
+        module _ (right : r ≡ true) where
           four : rise 0 (codes t) ≡ true
-          four = sym is-r ∙ not-false r right
+          four = sym is-r ∙ right
 
           pub count_cut : length t < 5 + d + 2 → refused 1 ≡ laid_out t
           count_cut h = stops 1 (inr (one, inr (two, inr (three, inr (four, inl (lt-leb (7 + datums t) (length t) (omega (arith, h, is-d)), refl))))))

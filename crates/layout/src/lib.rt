@@ -1,5 +1,7 @@
 // The form of a unit sheet: its tests in the order of its bytes, up to the codes of its points. A sheet made for another unit is
 // refused as such.
+#![tactic(auto)]
+
 ghost use Rattle.std.specs.Prelude.{◌≡◌};
 ghost use Rattle.layout.specs.Sheet.{rise};
 ghost use Rattle.layout.specs.Layout.{layout_answer, read_of, laid_out};
@@ -7,13 +9,13 @@ ghost use Rattle.layout.specs.Layout.{layout_answer, read_of, laid_out};
 use kinds::Refusal;
 
 // How many datums and points a sheet has, which says where each of its parts is.
-#[derive(Drop)]
+#[derive(Clone, Copy)]
 pub struct Layout {
     pub datums: usize,
     pub points: usize,
 }
 
-#[derive(Drop)]
+#[derive(Clone, Copy)]
 pub enum LayoutAnswer {
     Gives(Layout),
     Refused(Refusal),

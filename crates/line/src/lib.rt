@@ -1,4 +1,6 @@
 // One line in, one line out: a point as text, and its shift or geoid height as it is printed, or its waypoint.
+#![tactic(auto)]
+
 ghost use Rattle.std.specs.Prelude.{◌≡◌, [], ◌∷◌, ◌++◌, ◌+◌, ◌≤◌, length, drop};
 ghost use Rattle.kinds.specs.Answer.{number_of, placed, counted, lent};
 ghost use Rattle.kinds.specs.Cases.{local_longitude, written};
@@ -28,7 +30,7 @@ pub fn line(text: &[u8], out: &mut [u8]) -> WrittenAnswer
 }
 
 // How a line is answered: with numbers, as above, or with the waypoint of its point, for the drawing office.
-#[derive(Drop)]
+#[derive(Clone, Copy)]
 pub enum Form {
     Numbers,
     Waypoints,
@@ -56,14 +58,14 @@ pub const ANSWER: usize = 36;
 pub const WAYPOINT: usize = ELEMENT + 1;
 
 // A point as a line says it.
-#[derive(Drop)]
+#[derive(Clone, Copy)]
 struct Place {
     code: i64,
     latitude: LocalLatitude,
     longitude: LocalLongitude,
 }
 
-#[derive(Drop)]
+#[derive(Clone, Copy)]
 enum PlaceAnswer {
     Gives(Place),
     Refused(Refusal),

@@ -1,5 +1,7 @@
 // An input that comes in pieces, a line of it at a time: what is begun of a line is carried from piece to piece, and how many more
 // bytes may be taken; and in which form its lines are answered.
+#![tactic(auto)]
+
 ghost use Rattle.std.specs.Prelude.{◌≡◌, true, [], ◌++◌, ◌+◌, ◌<◌, ◌≤◌, length, take, drop};
 ghost use Rattle.kinds.specs.Bytes.{part};
 ghost use Rattle.line.specs.declared.Form.TheVariants.{Numbers, Waypoints};
@@ -12,14 +14,14 @@ use numbers::one;
 use whole::least;
 
 // The first bytes of a line whose line feed has not come. Of a longer line 27 are kept, which are refused as it is.
-#[derive(Drop)]
+#[derive(Clone, Copy)]
 pub struct Begun {
     bytes: [u8; KEPT],
     count: usize,
 }
 
 // An input that is being read: the form of its answers, the line that is begun, and how many more bytes of it may be taken.
-#[derive(Drop)]
+#[derive(Clone, Copy)]
 pub struct Reading {
     form: Form,
     begun: Begun,
@@ -27,7 +29,7 @@ pub struct Reading {
 }
 
 // What a call took and put, and the reading after it.
-#[derive(Drop)]
+#[derive(Clone, Copy)]
 pub struct Fed {
     pub reading: Reading,
     pub taken: usize,

@@ -7,7 +7,7 @@ ghost use Rattle.whole.specs.Round.{round_half_up, round_div, scale};
 ghost use Rattle.whole.specs.Sign.{with_sign};
 
 // A number in hundred-millionths, as u and v are. K and the powers of u and v, which are bare numbers, have the same scale.
-#[derive(Drop)]
+#[derive(Clone, Copy)]
 pub struct Parts(pub i64);
 
 impl Parts {
