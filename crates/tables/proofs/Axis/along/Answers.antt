@@ -1,4 +1,4 @@
-use Rattle.std.proofs.Common.{◌≡◌, ap, ◌∙◌, rules, arith, ◌*◌, ◌≤◌, nat_abs, ℤ, ◌-ℤ◌, ◌*ℤ◌}
+use Rattle.std.proofs.Common.{ap, ◌∙◌, rules, arith, ◌*◌, ◌≤◌, nat_abs, ℤ, ◌-ℤ◌, ◌*ℤ◌}
 use mir.Syntax.{w64}
 use mir.Val.{SFits, of_z}
 use Rattle.whole.specs.Round.{round_div}
