@@ -1,6 +1,5 @@
-use Rattle.std.proofs.Common.{◌≡◌, ◌∙◌, Bool, ◌&&◌, rules}
-use lib.IntN.{ℤ}
-use mir.Syntax.{w32, w64}
+use Rattle.std.proofs.Common.{◌≡◌, ◌∙◌, rules, Bool, ◌&&◌, ℤ}
+use mir.Syntax.{w64}
 use mir.Val.{SFits, to_z, of_z}
 use Rattle.whole.proofs.Words.{of, widened}
 use Rattle.kinds.specs.Kinds.{within}
@@ -17,8 +16,8 @@ returns c =
     let north : SFits w64 frame.north = search rules in
     let west : SFits w64 frame.west = search rules in
     let east : SFits w64 frame.east = search rules in
-    let ms : SFits w32 c.ms.result = record { sfits = c.ms.type_inv } in
-    let l : SFits w64 c.longitude-longitude.result = record { sfits = c.longitude-longitude.type_inv } in
-    let a = side frame.south frame.north _ south north ((widened ms).reads ∙ c.ms.ensures) c.within.ensures in
-    let b = side frame.west frame.east _ west east ((of l).reads ∙ c.longitude-longitude.ensures.0) c.within-2.ensures in
+    let m = c.ms in
+    let l = c.longitude-longitude in
+    let a = side frame.south frame.north c.args.position.latitude.0 south north ((widened {x = m.result} (record { sfits = m.type_inv })).reads ∙ m.ensures) c.within.ensures in
+    let b = side frame.west frame.east _ west east ((of {w = w64} (record { sfits = l.type_inv })).reads ∙ l.ensures.0) c.within-2.ensures in
     λ i. a i && b i
