@@ -17,7 +17,7 @@ pub returns-clause-value : goal.returns-clause-value
 returns-clause-value c =
     c.in_numbers.ensures
     ∙ ap written_fields
-      (c.waypoint.ensures.result_value ∙ came c.ranges.code c.ranges.latitude_ms c.ranges.longitude_ms (λ k a o. counted (waypoint_of k a o (length c.args.out.now))))
+    (c.waypoint.ensures.result_value ∙ came c.ranges.code c.ranges.latitude_ms c.ranges.longitude_ms (λ k a o. counted (waypoint_of k a o (length c.args.out.now))))
 
 pub returns-clause-out_after : goal.returns-clause-out_after
 returns-clause-out_after c =
