@@ -14,7 +14,7 @@ use Rattle.tables.specs.Page.{Page, Equation, Family, shift, geoid, is_shift, is
 use Rattle.tables.specs.Rule.{in_area, worked}
 use Rattle.kinds.proofs.Calls.{found}
 use Rattle.datum.specs.Point.{is_code, page_of, point_of, asked}
-use Rattle.datum.specs.Inside.{located, values_answer, is_of}
+use Rattle.datum.specs.Inside.{values_answer, is_of}
 use Rattle.datum.specs.declared.ValuesAnswer.{ValuesAnswer}
 
 abbrev code_page : ℤ → Answer Page

@@ -3,7 +3,7 @@
 use mathlib.Core.Path.{◌≡◌, refl, sym, ap, ◌∙◌, subst}
 use mathlib.Core.Bool.{Bool, true, false, not, ◌&&◌, ◌||◌}
 use mathlib.Core.List.{List}
-use Prim.Native.Nat.{ℕ, ◌+◌, ◌-◌, ◌*◌, ◌^◌, ◌≤◌, ◌<◌}
+use Prim.Native.Nat.{ℕ, ◌+◌, ◌-◌, ◌*◌, ◌^◌, ◌<◌}
 use native.Mathlib.Nat.{mul-pos}
 use native.Mathlib.Omega.{arith}
 use lib.Dec.{T, eqb, eqb→eq, leb, leb→le, ltb, ltb→lt, lit<, lit≤}
@@ -11,7 +11,6 @@ use lib.IntN.{ℤ, pos, nat_abs, ◌-ℤ◌, ◌*ℤ◌}
 use lib.ListN.{get_or}
 use mir.Facts.{and_yes}
 use Rattle.whole.specs.Round.{round_div, scale}
-use Rattle.whole.specs.Every.{every}
 use Rattle.whole.proofs.Bools.{three}
 use Rattle.equation.specs.Equation.{Term, equation_of}
 use Rattle.equation.specs.Exact.{Fraction, ◌over◌, whole, ◌times◌, ◌to_the◌, exact_of, Within}

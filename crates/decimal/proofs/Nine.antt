@@ -6,7 +6,6 @@ use native.Mathlib.Nat.{div-one}
 use native.Mathlib.Omega.{arith}
 use lib.IntN.{ℤ, pos, negsuc, nat_abs}
 use lib.ListN.{length, take, drop, set, length-append}
-use lib.Seq.{take-length}
 use borrow.Rule.Slice.PartMut.{put_mid}
 use Rattle.whole.specs.Places.{in_places}
 use Rattle.whole.specs.Digits.{from_digits, digits}
@@ -59,18 +58,18 @@ module _ (n : ℕ) where
   pub places_long : {ten : List ℕ} → ten ≡ digits 10 (n % billion) → length (set ten 0 46) ≡ 10
   places_long is-ten = ap length (pointed is-ten) ∙ omega (arith, digits_long 9 (n % billion))
 
-  -- d is the line as it came, line what stands there after r digits, and new what was lent from there on, afterwards
-  pub all_written : {r : ℕ} {ten line : List ℕ} (d new : List ℕ) → r ≡ length (decimal (n / billion)) → line ≡ decimal (n / billion) ++ drop r d → ten ≡ digits 10 (n % billion)
-      → new ≡ take (length (set ten 0 46)) (set ten 0 46) ++ drop (length (set ten 0 46)) (take (length line - r) (drop r line))
-      → (r + length (set ten 0 46) ≡ length (billionths n)) × (put_mid r (length line - r) line new ≡ billionths n ++ drop (r + length (set ten 0 46)) d)
-  all_written {r} {ten} {line} d new is-r is-line is-ten is-new =
+  -- d is the line as it came, line what stands there after r digits, and new what was lent from there on, after k bytes
+  pub all_written : {r k : ℕ} {ten line : List ℕ} (d new : List ℕ) → r ≡ length (decimal (n / billion)) → line ≡ decimal (n / billion) ++ drop r d → ten ≡ digits 10 (n % billion)
+      → k ≡ length (set ten 0 46) → new ≡ set ten 0 46 ++ drop k (take (length line - r) (drop r line))
+      → (r + k ≡ length (billionths n)) × (put_mid r (length line - r) line new ≡ billionths n ++ drop (r + k) d)
+  all_written {r} {k} {ten} {line} d new is-r is-line is-ten is-k is-new =
       let src : List ℕ = set ten 0 46 in
       let text : decimal (n / billion) ++ src ≡ billionths n = ap (λ (l : List ℕ). decimal (n / billion) ++ l) (pointed is-ten) ∙ sym (at_point n) in (
-        omega (arith, is-r, length-append (decimal (n / billion)) src, ap length text),
-        ap (λ (l : List ℕ). put_mid r (length line - r) line l) (is-new ∙ ap (λ (l : List ℕ). l ++ drop (length src) (take (length line - r) (drop r line))) (take-length src))
-            ∙ ap (λ (l : List ℕ). put_mid r (length l - r) l (src ++ drop (length src) (take (length l - r) (drop r l)))) is-line
-            ∙ grown (decimal (n / billion)) d src r (length src) (sym is-r)
-            ∙ ap (λ (l : List ℕ). l ++ drop (r + length src) d) text,
+        omega (arith, is-r, is-k, length-append (decimal (n / billion)) src, ap length text),
+        ap (λ (l : List ℕ). put_mid r (length line - r) line l) is-new
+            ∙ ap (λ (l : List ℕ). put_mid r (length l - r) l (src ++ drop k (take (length l - r) (drop r l)))) is-line
+            ∙ grown (decimal (n / billion)) d src r k (sym is-r)
+            ∙ ap (λ (l : List ℕ). l ++ drop (r + k) d) text,
       )
 
 -- ---- how long it is

@@ -7,20 +7,20 @@ use native.Mathlib.Numerals.{add-one}
 use native.Mathlib.Omega.{arith}
 use lib.Dec.{eqb}
 use lib.IntN.{ℤ, pos, negsuc, nat_abs}
-use lib.ListN.{length, take, drop, get_or, set, length-append, length-drop, length-map}
-use lib.Seq.{drop-cons, take_all, take-length}
+use lib.ListN.{length, take, drop, get_or, set, length-drop, length-map}
+use lib.Seq.{drop-cons, take_all}
 use lib.Signed.{lt_z}
 use borrow.Author.Tests.{ltb-true, ne_eqb}
 use borrow.Rule.Slice.PartMut.{put_mid}
-use mir.Syntax.{Width, w32}
-use mir.Val.{Fits, SFits, to_z, of_z}
+use mir.Syntax.{Width}
+use mir.Val.{SFits, to_z, of_z}
 use Rattle.whole.specs.Every.{every}
 use Rattle.whole.specs.Places.{in_places}
 use Rattle.whole.specs.Digits.{byte_of, digits}
 use Rattle.whole.proofs.Bools.{both, by_test}
 use Rattle.whole.proofs.Places.{in_places_long}
-use Rattle.whole.proofs.Words.{Holds, of, zero_is, tested, sized}
-use Rattle.kinds.proofs.Writing.{byte_after, lent_part, grown}
+use Rattle.whole.proofs.Words.{Holds, of, zero_is, tested}
+use Rattle.kinds.proofs.Writing.{byte_after, grown}
 use Rattle.decimal.specs.Decimal.{minus, unpadded, decimal, minus_first, printed_number, billion, billionths}
 
 -- ---- leading zeros
@@ -87,13 +87,12 @@ at_point n = append_assoc (decimal (n / billion)) (46 ∷ []) (digits 9 (n % bil
 
 -- what stands from the first digit on is written: r says how many, and new is the line afterwards
 pub digits_written : (n f r : ℕ) (ten line new : List ℕ) → ten ≡ digits 10 n → drop f ten ≡ unpadded ten
-    → r ≡ length (take (10 - f) (drop f ten)) → new ≡ take (length (take (10 - f) (drop f ten))) (take (10 - f) (drop f ten)) ++ drop (length (take (10 - f) (drop f ten))) line
+    → r ≡ length (take (10 - f) (drop f ten)) → new ≡ take (10 - f) (drop f ten) ++ drop r line
     → (r ≡ length (decimal n)) × (new ≡ decimal n ++ drop r line)
 unfolding decimal
 digits_written n f r ten line new is-ten from_First is-r is-new =
     let src : take (10 - f) (drop f ten) ≡ unpadded (digits 10 n) = take_all (10 - f) (drop f ten) (omega (arith, length-drop f ten, ap length is-ten, digits_long 10 n)) ∙ from_First ∙ ap unpadded is-ten in
-    let long : r ≡ length (unpadded (digits 10 n)) = is-r ∙ ap length src in
-    (long, is-new ∙ (λ i. (take-length (take (10 - f) (drop f ten)) ∙ src) i ++ drop ((sym is-r) i) line))
+    (is-r ∙ ap length src, is-new ∙ ap (λ (l : List ℕ). l ++ drop r line) src)
 
 -- ---- and its sign
 pub printed_short : (z : ℤ) → length (printed_number z) ≤ 11
@@ -105,16 +104,10 @@ printed_short (negsuc n) = omega (arith, decimal_short (suc n))
 pub size_is : {w : Width} {a m : ℕ} {z : ℤ} → Holds w a z → m ≡ nat_abs (to_z w a) → m ≡ nat_abs z
 size_is h is_m = is_m ∙ ap nat_abs h.reads
 
-pub size_fits : {z : ℤ} → SFits w32 z → {m : ℕ} → m ≡ nat_abs z → Fits w32 m
-size_fits {z} fits is_m = record { fits = omega (arith, is_m, sized z fits) }
-
--- the sign is written to the line d, in which k bytes more have room: they are lent
+-- the sign is written to the line d, in which k bytes more have room
 module _ (d : List ℕ) (k : ℕ) (room : k < length d) where
   signed_line : set d 0 minus ≡ (minus ∷ []) ++ drop 1 d
   signed_line = byte_after [] d minus 0 refl (omega (arith, room))
-
-  pub after_sign : k ≤ length (take (length (set d 0 minus) - 1) (drop 1 (set d 0 minus)))
-  after_sign = rw (signed_line, lent_part (minus ∷ []) d 1 refl) (omega (arith, room, length-drop 1 d))
 
 -- whatever the text of a size is
 module _ (text : ℕ → List ℕ) where
@@ -138,9 +131,6 @@ module _ (text : ℕ → List ℕ) where
       with_sign_lem =
           let e : minus ∷ text m ≡ minus_first text z = ap (λ (n : ℕ). minus ∷ text n) is_m ∙ below_zero z (tested lt_z (of fits) zero_is h) in
           (omega (arith, is-r, ap length e), rw (is-new, signed_line d k room) (grown (minus ∷ []) d (text m) 1 r refl ∙ ap (λ (l : List ℕ). l ++ drop (1 + r) d) e))
-
-      pub same_long : length (text m) ≤ k → length (put_mid 1 (length (set d 0 minus) - 1) (set d 0 minus) new) ≡ length d
-      same_long short = ap length with_sign_lem.1 ∙ omega (arith, length-append (minus_first text z) (drop (1 + r) d), length-drop (1 + r) d, with_sign_lem.0, is-r, short, room)
 
 -- ---- and the byte that follows it
 -- y is z as the code holds it

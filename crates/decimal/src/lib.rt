@@ -1,4 +1,6 @@
 // Numbers as they are printed.
+#![tactic(auto)]
+
 ghost use Rattle.std.specs.Prelude.{◌≡◌, [], ◌∷◌, ◌++◌, ◌+◌, ◌%◌, ◌<◌, ◌≤◌, nat_abs, length, drop};
 ghost use Rattle.whole.specs.Digits.{digits};
 ghost use Rattle.decimal.specs.Decimal.{unpadded, decimal, printed_number, billionths, nine_places};
@@ -115,6 +117,7 @@ fn digit(n: u32) -> u8
 }
 
 // Where the first digit stands that is written: the last one at the latest.
+#[tactic(auto, using(crate::proofs::Numbers::passed_over, crate::proofs::Numbers::found, crate::proofs::Numbers::last_found))]
 fn first_digit(digits: &[u8]) -> usize
     ensures upper_bound { result ≤ length digits.now }
     ensures digits_value { drop result digits.now ≡ unpadded digits.now }

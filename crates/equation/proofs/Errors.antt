@@ -1,14 +1,11 @@
 -- How far the answer of an equation can be from its exact value: one computed test, and the one theorem about it, over any
--- table, any limits of u and v, any scale, any last divisor and any bound. Assumes nothing.
---
--- An error on the way is counted as a whole number over `fine`, of a product the next larger: the larger `fine` is, the less is
--- lost in counting.
+-- table, any limits of u and v, any scale, any last divisor and any bound. The test is in `Budget`. Assumes nothing.
 use mathlib.Core.Path.{◌≡◌, refl, sym, ap, ◌∙◌, subst}
 use mathlib.Core.Bool.{Bool, true, false, ◌&&◌}
 use mathlib.Core.List.{List, [], ◌∷◌}
 use Prim.Native.Nat.{ℕ, zero, suc, ◌+◌, ◌-◌, ◌*◌, ◌/◌, ◌≤◌, ◌<◌}
 use native.Mathlib.Nat.{le_trans, le_of_lt, lt-mul-div-succ, mul-pos, mul-le-mul_left, mul-le-mul_right}
-use lib.Dec.{T, leb, leb→le, le→leb, ltb, ltb→lt, lit<}
+use lib.Dec.{T, leb→le, le→leb, ltb, ltb→lt, lit<}
 use lib.IntN.{ℤ, pos, nat_abs, ◌*ℤ◌, *ℤ_comm}
 use mir.Facts.{and_yes}
 use Rattle.whole.specs.Round.{round_div, scale}
@@ -18,47 +15,10 @@ use Rattle.equation.specs.Powers.{power, powers_of}
 use Rattle.equation.specs.Equation.{Term, term, among_ten, product, sum}
 use Rattle.equation.specs.Exact.{Fraction, ◌over◌, ◌times◌, ◌to_the◌, exact_of, Within, Beyond}
 use Rattle.equation.proofs.Steps.{limit, power_size, powers_at}
+use Rattle.equation.proofs.Budget.{in_ten, product_error, power_error, term_error, sum_error, divisors, at_most}
 use Rattle.equation.proofs.Fractions.{exact_proper}
+pub use Rattle.equation.proofs.Budget.{bounded}
 use Rattle.equation.proofs.Nearness.{Near, near_zero, near_one, near_one_times, near_times_one, near_quotient, near_product, near_sum, near_answer}
-
--- ---- the test
--- each term's powers are among the ten
-abbrev in_ten : List Term → Bool
-in_ten [] = true
-in_ten (t ∷ ts) = among_ten t && in_ten ts
-
-module _ (s fine : ℕ) where
-  -- of a rounded product, by its factors' errors e and d and sizes m and n
-  abbrev product_error : ℕ → ℕ → ℕ → ℕ → ℕ
-  product_error e d m n = (fine * fine * s + 2 * (fine * (e * n + m * d) + e * d)) / (2 * fine * s) + 1
-
-  -- of the nth power of a rounded number whose size is at most m
-  abbrev power_error : ℕ → ℕ → ℕ
-  power_error m zero = 0
-  power_error m (suc zero) = fine - fine / 2
-  power_error m (suc (suc n)) = product_error (power_error m (suc n)) (fine - fine / 2) (limit s m (suc n)) m
-
-  -- of a term's product; one with a zeroth power is not rounded again
-  abbrev term_error : ℕ → ℕ → ℕ → ℕ → ℕ
-  term_error mu mv zero j = power_error mv j
-  term_error mu mv (suc i) zero = power_error mu (suc i)
-  term_error mu mv (suc i) (suc j) = product_error (power_error mu (suc i)) (power_error mv (suc j)) (limit s mu (suc i)) (limit s mv (suc j))
-
-  -- of the sum
-  abbrev sum_error : ℕ → ℕ → List Term → ℕ
-  sum_error mu mv [] = 0
-  sum_error mu mv (term c i j ∷ ts) = nat_abs c * term_error mu mv i j + sum_error mu mv ts
-
-  -- no divisor is zero
-  abbrev divisors : ℕ → ℕ → ℕ → Bool
-  divisors du dv divisor = (ltb 0 s && ltb 0 fine) && (ltb 0 du && (ltb 0 dv && ltb 0 divisor))
-
-  -- half a unit for the last rounding and the error of the sum are at most h nths of a unit
-  abbrev at_most : ℕ → ℕ → ℕ → ℕ → ℕ → List Term → Bool
-  at_most divisor mu mv h n ts = leb (n * (fine * divisor + 2 * sum_error mu mv ts)) (2 * divisor * h * fine)
-
-  abbrev pub bounded : ℕ → ℕ → ℕ → ℕ → ℕ → ℕ → ℕ → List Term → Bool
-  bounded du dv divisor mu mv h n ts = divisors du dv divisor && (in_ten ts && at_most divisor mu mv h n ts)
 
 -- what passes with a bound passes with a larger one
 pub bounded_wider : (s fine du dv divisor mu mv n : ℕ) {g h : ℕ} (ts : List Term) → g ≤ h → T (bounded s fine du dv divisor mu mv g n ts) → T (bounded s fine du dv divisor mu mv h n ts)

@@ -11,6 +11,8 @@ pub mod Limits
 pub mod Fractions
 -- how near a working number is to the fraction that it stands for
 pub mod Nearness
+-- the test of an equation: what each rounding is charged
+pub mod Budget
 -- the one theorem about the error, and the test that it asks for
 pub mod Errors
 -- what document 01 asks of an equation

@@ -1,6 +1,6 @@
 -- What document 01 asks of positions as text, of latitude and longitude alike but for the points worked at the end. Stated
 -- over specs/ alone. Assumes nothing.
-use Rattle.std.proofs.Common.{◌≡◌, ℕ, ◌^◌, ◌<◌, ◌≤◌, Bool, true, false, ◌&&◌, eqb, leb, ◌⊎◌, ◌↔◌, List, [], ◌∷◌, ◌++◌, length, take, drop, replicate, ℤ, pos, sym, refl, ap, ◌∙◌, subst, inl, inr, ⊎_elim, arith, take_at, eq-eqb, ne_eqb, eqb-true, le-leb}
+use Rattle.std.proofs.Common.{◌≡◌, ℕ, ◌^◌, ◌<◌, ◌≤◌, Bool, true, false, ◌&&◌, eqb, ◌⊎◌, ◌↔◌, List, [], ◌∷◌, ◌++◌, length, take, drop, replicate, ℤ, pos, sym, refl, ap, ◌∙◌, subst, inl, inr, ⊎_elim, arith, take_at, eq-eqb, ne_eqb, eqb-true}
 use mathlib.Core.Bool.{and-true, and_assoc}
 use borrow.Author.Tests.{eqb-false}
 use Rattle.whole.specs.Places.{from_places}

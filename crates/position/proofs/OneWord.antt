@@ -1,5 +1,5 @@
 -- The bytes `mmss.sss` of a latitude's form as one word: how the code tests them, and how it reads them. Assumes nothing.
-use Rattle.std.proofs.Common.{◌≡◌, ℕ, ◌+◌, ◌*◌, ◌/◌, ◌%◌, ◌<◌, Bool, true, false, ◌&&◌, eqb, ltb, List, [], ◌∷◌, length, sym, refl, ap, ◌∙◌, arith, ltb-false, ltb-true, le-ltb, lt-ltb}
+use Rattle.std.proofs.Common.{◌≡◌, ℕ, ◌+◌, ◌*◌, ◌/◌, ◌%◌, ◌<◌, Bool, true, ◌&&◌, eqb, ltb, List, [], ◌∷◌, length, sym, refl, ap, ◌∙◌, arith, ltb-false, ltb-true, le-ltb, lt-ltb}
 use mathlib.Core.Bool.{and-true, and_assoc, and_comm}
 use lib.Bits.{bit_and, bit_xor, and_zero_r}
 use Rattle.whole.specs.Every.{every}
@@ -153,7 +153,7 @@ module _ (t : List ℕ) (long : length t ≡ 11) where
       sixties =
           ap (λ (n : ℕ). eqb (bit_and n 1152939096792891392) 0) tens_are
           ∙ each (λ (p : ℕ × ℕ). p.0) (λ (p : ℕ × ℕ). p.1) tens tens_small refl
-          ∙ simp (and_zero_r, and-true, two_number 2 t (omega arith), two_number 4 t (omega arith), tens_below (d 2) (d 3) all_digits.d2 all_digits.d3, tens_below (d 4) (d 5) all_digits.d4 all_digits.d5)
+          ∙ simp (and_zero_r, and-true, two_number 2 t (omega arith), two_number 4 t (omega arith), tens_below (d 2) (d 3) every_digit.d2 every_digit.d3, tens_below (d 4) (d 5) every_digit.d4 every_digit.d5)
 
       -- ---- in pairs
       shifted : figures t / 256 ≡ d 2 * 281474976710656 + d 3 * 1099511627776 + d 4 * 4294967296 + d 5 * 16777216 + d 7 * 256 + d 8

@@ -1,7 +1,9 @@
 -- What each return of a writing answers, and what it leaves in the lent buffer. Assumes nothing.
-use Rattle.std.proofs.Common.{◌≡◌, ℕ, List, length, take, drop, ℤ, refl, ap, ◌∙◌}
+use Rattle.std.proofs.Common.{◌≡◌, ℕ, List, length, take, drop, ℤ, refl, sym, ap, ◌∙◌, w64}
+use mir.Val.{SFits, to_z, of_z}
 use Rattle.whole.specs.Places.{in_places}
 use Rattle.whole.specs.Digits.{digits}
+use Rattle.whole.proofs.Words.{of}
 use Rattle.kinds.specs.Answer.{Answer, gives, refused, provided, placed, counted, lent}
 use Rattle.kinds.specs.Kinds.{tested}
 use Rattle.kinds.proofs.Answers.{passed, failed}
@@ -15,6 +17,11 @@ unfolding spelled digits in_places
 spelled_rest m b = refl
 
 -- ---- by what the constructor answers
+-- of a number that a signed word holds
+pub told : (k : Coordinate) {x : ℤ} → SFits w64 x → {a : Answer ℤ}
+    → a ≡ tested (has_text k (to_z w64 (of_z w64 x))) (to_z w64 (of_z w64 x)) → tested (has_text k x) x ≡ a
+told k f e = sym (e ∙ ap (λ (x : ℤ). tested (has_text k x) x) (of {w = w64} f).reads)
+
 module _ (k : Coordinate) (x : ℤ) (out : List ℕ) where
   pub out_of_range : {n : ℕ} → tested (has_text k x) x ≡ refused n → Written (write k x (length out)) out (refused n) out
   unfolding write

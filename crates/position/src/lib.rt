@@ -1,5 +1,7 @@
 // A position as text, read and written: `ddmmss.sssN` or `S` for a latitude, `dddmmss.sssE` for a longitude.
 // A longitude's text is a digit, for hundreds of degrees, and then a text of a latitude's form: so the work is done once.
+#![tactic(auto)]
+
 ghost use Rattle.std.specs.Prelude.{◌≡◌, ◌+◌, ◌%◌, ◌<◌, ◌≤◌, true, not, length, pos, neg_ℤ, ◌==◌};
 ghost use Rattle.whole.specs.Digits.{is_digit, digit_of, from_digits};
 ghost use Rattle.kinds.specs.Answer.{provided, counted, lent};

@@ -1,7 +1,7 @@
 -- The work on a sheet that was laid out, and on any: what each return answers, and what it leaves in the lent buffer. Assumes
 -- nothing.
 use mathlib.Core.Path.{◌≡◌, refl, sym, ap, ◌∙◌, subst}
-use mathlib.Core.Bool.{Bool, true, false, not}
+use mathlib.Core.Bool.{Bool, true, false}
 use mathlib.Core.List.{List, [], ◌∷◌, ◌++◌, map, flat_map}
 use mathlib.Core.Logic.{◌⊎◌, inl, inr, ⊎_elim}
 use Prim.Native.Nat.{ℕ, suc, ◌+◌, ◌-◌, ◌*◌, ◌<◌, ◌≤◌}
@@ -10,7 +10,7 @@ use lib.Dec.{leb}
 use lib.IntN.{ℤ}
 use lib.ListN.{length, get_or, take, drop, length-append, length-drop}
 use lib.Seq.{take_all}
-use borrow.Author.Tests.{lt-ltb, le-leb, lt-leb, not-true, not-false}
+use borrow.Author.Tests.{lt-ltb, le-leb, lt-leb}
 use mir.Syntax.{w64}
 use mir.Val.{Fits, SFits, to_z, of_z}
 use Rattle.whole.proofs.Bools.{joined}
@@ -122,14 +122,14 @@ module _ (t : List ℕ) {layout : Layout} (l : Laid t layout) where
         is_b ∙ (λ i. all_flagged ((is_f ∙ ap flags (codes_are t five l.is_datums)) i) (l.is_points i) (body_is i))
         ∙ every_same (λ p. get_or (flags (codes t)) p.code false) (λ p. is_listed (codes t) p.code) (λ p. flagged (codes t) l.right p.code) (map point (pieces (count t) 9 (body t)))
 
-    pub unlisted : not b ≡ true → (refused 9 ≡ counted (finished t (length out))) × (out ≡ lent (finished t (length out)) out)
+    pub unlisted : b ≡ false → (refused 9 ≡ counted (finished t (length out))) × (out ≡ lent (finished t (length out)) out)
     unfolding finished
-    unlisted h = simp (← all_is, not-true b h) (refl, refl)
+    unlisted h = simp (← all_is, h) (refl, refl)
 
-    module _ (all : not b ≡ false) where
+    module _ (all : b ≡ true) where
       pub no_room : length out < 6 + n * 13 → (refused 7 ≡ counted (finished t (length out))) × (out ≡ lent (finished t (length out)) out)
       unfolding finished
-      no_room h = simp (← all_is, not-false b all, lt-leb (length (result_of (said t))) (length out) (omega (arith, h, result_long t, l.is_points))) (refl, refl)
+      no_room h = simp (← all_is, all, lt-leb (length (result_of (said t))) (length out) (omega (arith, h, result_long t, l.is_points))) (refl, refl)
 
       -- new is the buffer afterwards
       pub all_written : {new : List ℕ} → ((i : ℕ) → at t i < 256) → 6 + n * 13 ≤ length out
@@ -139,7 +139,7 @@ module _ (t : List ℕ) {layout : Layout} (l : Laid t layout) where
       all_written {new} known room is-new =
           let long : 6 + n * 13 ≡ length (result_of (said t)) = omega (arith, result_long t, l.is_points) in
           let bytes : take 4 t ++ take (5 + d + 2 - (5 + d)) (drop (5 + d) t) ++ records n (take (length t - (5 + d + 2)) (drop (5 + d + 2) t)) ≡ result_of (said t) = (λ i. start_is known i ++ records (l.is_points i) (body_is i)) ∙ result_is t in
-          simp (← all_is, not-false b all, le-leb (length (result_of (said t))) (length out) (omega (arith, room, long))) (ap gives long, is-new ∙ (λ i. bytes i ++ drop (long i) out))
+          simp (← all_is, all, le-leb (length (result_of (said t))) (length out) (omega (arith, room, long))) (ap gives long, is-new ∙ (λ i. bytes i ++ drop (long i) out))
 
 -- ---- any sheet
 -- what `read` answers of the unit's number as it came

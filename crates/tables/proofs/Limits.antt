@@ -1,7 +1,7 @@
 -- The limits of a page: what one computed test shows of every point of its box. Assumes nothing.
 use mathlib.Core.Path.{◌≡◌, sym, ap, subst}
 use mathlib.Core.Bool.{Bool, true, ◌&&◌}
-use Prim.Native.Nat.{ℕ, ◌<◌, ◌≤◌, max}
+use Prim.Native.Nat.{ℕ, ◌<◌, ◌≤◌}
 use native.Mathlib.Nat.{le_trans}
 use lib.Dec.{T, leb, leb→le, ltb, ltb→lt, eqb, eqb→eq, lit<}
 use lib.ListN.{get_or, drop}
@@ -21,8 +21,10 @@ use Rattle.tables.specs.Page.{Page, Axis, Equation, each}
 use Rattle.tables.specs.Cyprus.{cyprus}
 use Rattle.tables.specs.Rule.{longitude_on, in_box, along}
 use Rattle.tables.specs.Tables.{pages}
-use Rattle.tables.specs.Inside.{axis_of, on_axis, equation_at, Fits, AllFit, Small, Close}
+use Rattle.tables.specs.Inside.{axis_of, on_axis, equation_at, Fits, AllFit, Small}
 use Rattle.tables.proofs.Families.{each_by}
+use Rattle.tables.proofs.Reach.{most}
+pub use Rattle.tables.proofs.Reach.{most_u, most_v}
 
 -- ---- a test of every page shows of the page in each row
 pub each_row : (test : Page → Bool) → T (every test pages) → (n : ℕ) → T (test (get_or pages n cyprus))
@@ -32,16 +34,6 @@ each_row test = every_place test cyprus (drop 1 pages)
 -- of an axis: the code's divisor, and numbers so small that 64 bits hold what is divided
 abbrev axis_keeps : Axis → Bool
 axis_keeps axis = eqb axis.divisor 3600000 && (leb axis.factor 1000000000 && leb (nat_abs axis.offset) 1000000000000000000)
-
--- the largest u or v, which is at one end of the box
-abbrev most : Axis → ℤ → ℤ → ℕ
-most axis least largest = max (nat_abs (along axis least)) (nat_abs (along axis largest))
-
-abbrev pub most_u : Page → ℕ
-most_u page = most page.u page.south page.north
-
-abbrev pub most_v : Page → ℕ
-most_v page = most page.v page.west page.east
 
 abbrev equation_keeps : ℕ → ℕ → Equation → Bool
 equation_keeps mu mv e = ltb 0 e.divisor && keeps e.divisor mu mv e.terms
@@ -68,9 +60,6 @@ module _ (axis : Axis) (h : T (axis_keeps axis)) where
   degree : axis.divisor ≡ 3600000
   degree = eqb→eq axis.divisor 3600000 tests.0
 
-  close : Close (axis_of axis)
-  close = record { factor = leb→le _ _ tests.1; offset = leb→le _ _ tests.2 }
-
   as_coded : (x : ℤ) → on_axis (axis_of axis) x ≡ along axis x
   as_coded x = ap (round_div _) (sym degree)
 
@@ -86,12 +75,6 @@ module _ (axis : Axis) (h : T (axis_keeps axis)) where
 module _ (page : Page) (h : T (page_keeps page)) where
   parts : T (axis_keeps page.u) × T (axis_keeps page.v) × T (sizes_keep page)
   parts = three (axis_keeps page.u) (axis_keeps page.v) (sizes_keep page) h
-
-  pub close_u : Close (axis_of page.u)
-  close_u = close page.u parts.0
-
-  pub close_v : Close (axis_of page.v)
-  close_v = close page.v parts.1
 
   pub u_coded : (x : ℤ) → on_axis (axis_of page.u) x ≡ along page.u x
   u_coded = as_coded page.u parts.0

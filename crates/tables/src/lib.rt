@@ -1,4 +1,6 @@
 // Document 000: u, v and the tables of six datums, a file each, and their areas; what each gives for a position of its area.
+#![tactic(auto)]
+
 mod alaska;
 mod cyprus;
 mod kandawala;
@@ -16,7 +18,7 @@ use equation::Powers;
 use kinds::{LocalLatitude, LocalLongitude, LocalPosition, within};
 use whole::Parts;
 
-#[derive(Drop)]
+#[derive(Clone, Copy)]
 pub enum Datum {
     Cyprus,
     Minna,
@@ -60,7 +62,7 @@ impl Datum {
 }
 
 // The values of a datum: dLat, dLon and dH; or, of a geoid datum, N and two zeros.
-#[derive(Drop)]
+#[derive(Clone, Copy)]
 pub struct Values {
     pub geoid: bool,
     pub first: i32,
@@ -70,7 +72,7 @@ pub struct Values {
 
 // What is particular to a datum but its tables: whether it has geoid heights and no shifts, how u and v come of a position,
 // and the ends of the area in ms, of which one west of Greenwich may be negative.
-#[derive(Drop)]
+#[derive(Clone, Copy)]
 pub struct Frame {
     pub geoid: bool,
     pub u: Axis,
@@ -118,14 +120,14 @@ impl Frame {
 }
 
 // Where a position stands on the page of a datum.
-#[derive(Drop)]
+#[derive(Clone, Copy)]
 pub struct Place {
     pub u: Parts,
     pub v: Parts,
 }
 
 // How u or v comes of ms: the factor times them, less the offset, over the ms of a degree.
-#[derive(Drop)]
+#[derive(Clone, Copy)]
 pub struct Axis {
     pub factor: i64,
     pub offset: i64,

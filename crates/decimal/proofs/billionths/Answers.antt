@@ -1,0 +1,15 @@
+use Rattle.std.proofs.Common.{◌/◌, arith, length-take, length-drop}
+use Rattle.decimal.specs.Decimal.{billion}
+use Rattle.decimal.proofs.Nine.{three_short, places_long, all_written}
+use Rattle.decimal.proofs.billionths.Goals as goal
+
+pub copy-requires : goal.copy-requires
+copy-requires c =
+    let p = c.up_to_three-point in
+    simp (length-take, length-drop) (omega (arith, places_long c.args.n c.in_ten-places.ensures, p.auto.line, p.ensures.value, three_short (c.args.n / billion) (omega (arith, c.requires.0)), c.requires.1))
+
+pub returns : goal.returns
+returns c =
+    let p = c.up_to_three-point in
+    let w = all_written c.args.n c.args.line.now _ p.ensures.value p.ensures.line_after c.in_ten-places.ensures c.copy.ensures.value c.copy.ensures.out_after in
+    record { value = w.0; line_after = w.1 }

@@ -1,0 +1,38 @@
+use Rattle.std.proofs.Common.{◌≡◌, ap, ◌∙◌, ℕ, ◌<◌, ◌^◌}
+use lib.IntN.{ℤ, pos}
+use lib.Signed.{mag}
+use mir.Syntax.{w32}
+use mir.Val.{hbits, to_z, of_z}
+use Rattle.whole.proofs.Words.{of}
+use Rattle.numbers.specs.Numbers.{signed}
+use Rattle.sheet.specs.Inside.{record_of}
+use Rattle.sheet.proofs.Points.{shift_record, geoid_record, refused_record, point_record_is}
+use Rattle.sheet.proofs.point_record.Goals as goal
+
+-- a result of 4 bytes, by the field that it is
+field : {n m : ℤ} → mag n < 2 ^ hbits w32 → n ≡ m → to_z w32 (of_z w32 n) ≡ m
+field h e = (of {w = w32} (record { sfits = h })).reads ∙ e
+
+pub returns-in-Shift : goal.returns-in-Shift
+returns-in-Shift c =
+    c.in_record.ensures
+    ∙ (λ i. record_of 0 (field c.units.type_inv c.units.ensures i) (field c.units-in-Shift.type_inv c.units-in-Shift.ensures i) (field c.mm.type_inv c.mm.ensures i))
+    ∙ shift_record _
+    ∙ point_record_is _ c.one.ensures.value c.one.ensures.upper_bound (c.signed-latitude.ensures ∙ ap signed c.four.ensures) (record { sfits = c.signed-latitude.type_inv })
+    c.four-longitude.ensures c.four-longitude.type_inv c.answer.ensures c.in-Shift.is
+
+pub returns-in-Geoid : goal.returns-in-Geoid
+returns-in-Geoid c =
+    c.in_record-in-Geoid.ensures
+    ∙ ap (λ (x : ℤ). record_of 0 x (pos 0) (pos 0)) (field c.mm-in-Geoid.type_inv c.mm-in-Geoid.ensures)
+    ∙ geoid_record _
+    ∙ point_record_is _ c.one.ensures.value c.one.ensures.upper_bound (c.signed-latitude.ensures ∙ ap signed c.four.ensures) (record { sfits = c.signed-latitude.type_inv })
+    c.four-longitude.ensures c.four-longitude.type_inv c.answer.ensures c.in-Geoid.is
+
+pub returns-in-Refused : goal.returns-in-Refused
+returns-in-Refused c =
+    c.in_record-in-Refused.ensures
+    ∙ ap (λ (n : ℕ). record_of n (pos 0) (pos 0) (pos 0)) c.number.ensures
+    ∙ refused_record c.in-Refused.why
+    ∙ point_record_is _ c.one.ensures.value c.one.ensures.upper_bound (c.signed-latitude.ensures ∙ ap signed c.four.ensures) (record { sfits = c.signed-latitude.type_inv })
+    c.four-longitude.ensures c.four-longitude.type_inv c.answer.ensures c.in-Refused.is
