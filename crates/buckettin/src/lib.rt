@@ -176,12 +176,7 @@ pub fn buckettin_line(line: &[u8], out: &mut [u8]) -> Written
     in_numbers(line::line(line, out))
 }
 
-pub fn buckettin_waypoint(
-    code: i64,
-    latitude_ms: i64,
-    longitude_ms: i64,
-    out: &mut [u8],
-) -> Written
+pub fn buckettin_waypoint(code: i64, latitude_ms: i64, longitude_ms: i64, out: &mut [u8]) -> Written
     ensures value { result ≡ written_fields (counted (waypoint_of code latitude_ms longitude_ms (length out.old))) }
     ensures out_after { out.new ≡ lent (waypoint_of code latitude_ms longitude_ms (length out.old)) out.old }
 {

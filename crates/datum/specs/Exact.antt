@@ -14,7 +14,7 @@ exact_along axis x = (pos axis.factor *ℤ x -ℤ axis.offset) over (axis.diviso
 
 -- the printed polynomial at exact U and V, in the units of the answer, into which the scale over the last divisor carries it
 abbrev pub exact_at : Fraction → Fraction → Equation → Fraction
-exact_at exactU exactV e = exact_of e.terms exactU exactV times (pos scale over e.divisor)
+exact_at exact_u exact_v e = exact_of e.terms exact_u exact_v times (pos scale over e.divisor)
 
 abbrev pub exact : Page → ℤ → ℤ → Family Fraction
 exact page latitude longitude =

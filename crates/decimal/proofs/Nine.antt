@@ -11,7 +11,7 @@ use Rattle.whole.specs.Places.{in_places}
 use Rattle.whole.specs.Digits.{from_digits, digits}
 use Rattle.whole.proofs.Digits.{number_of}
 use Rattle.kinds.proofs.Writing.{byte_after, grown}
-use Rattle.decimal.specs.Decimal.{unpadded, decimal, billion, billionths, nine_places}
+use Rattle.decimal.specs.Decimal.{decimal, billion, billionths, nine_places}
 use Rattle.decimal.proofs.Numbers.{unpadded_short, digits_long, at_point}
 use Rattle.decimal.proofs.Apart.{stays, one_more, any_width, digits_say, signed_apart}
 use Rattle.decimal.proofs.Told.{decimal_over, billionths_over, told_at}
@@ -25,28 +25,30 @@ decimal_short_in w n some few h = omega (arith, ap length (any_width 10 w n some
 pub three_short : (n : ℕ) → n < 1000 → length (decimal n) ≤ 3
 three_short n h = decimal_short_in 3 n (omega arith) (omega arith) h
 
--- n is written to the start of d, in as many digits as it needs
-module _ (n : ℕ) (d : List ℕ) (room : 3 ≤ length d) where
-  -- t are the digits, and new is d afterwards
-  written : (t new : List ℕ) → unpadded (digits 10 n) ≡ t → new ≡ t ++ drop (length t) d → (length t ≡ length (decimal n)) × (new ≡ decimal n ++ drop (length t) d)
-  unfolding decimal
-  written t new e is-new = (sym (ap length e), is-new ∙ ap (λ (l : List ℕ). l ++ drop (length t) d) (sym e))
+-- and which they are
+pub one_digit : (n : ℕ) → n < 10 → decimal n ≡ (48 + n % 10) ∷ []
+unfolding decimal digits in_places
+one_digit n h = any_width 10 1 n (omega arith) (omega arith) h ∙ stays (digits 1 n) (λ e. refl) ∙ simp div-one
 
-  pub one_digit : {a : ℕ} → n < 10 → a ≡ 48 + n % 10 → (1 ≡ length (decimal n)) × (set d 0 a ≡ decimal n ++ drop 1 d)
-  unfolding digits in_places
-  one_digit {a} h is-a = written (a ∷ []) _ (any_width 10 1 n (omega arith) (omega arith) h ∙ stays (digits 1 n) (λ e. refl) ∙ simp (is-a, div-one)) (byte_after [] d a 0 refl (omega (arith, room)))
+pub two_digits : (n : ℕ) → 10 ≤ n → n < 100 → decimal n ≡ (48 + n / 10 % 10) ∷ (48 + n % 10) ∷ []
+unfolding decimal digits in_places
+two_digits n low h = any_width 10 2 n (omega arith) (omega arith) h ∙ stays (digits 2 n) (λ e. absurd (omega (arith, e, low, h))) ∙ simp div-one
 
-  pub two_digits : {a b : ℕ} → 10 ≤ n → n < 100 → a ≡ 48 + n / 10 % 10 → b ≡ 48 + n % 10 → (2 ≡ length (decimal n)) × (set (set d 0 a) 1 b ≡ decimal n ++ drop 2 d)
-  unfolding digits in_places
-  two_digits {a} {b} low h is-a is_b =
-      written (a ∷ b ∷ []) _ (any_width 10 2 n (omega arith) (omega arith) h ∙ stays (digits 2 n) (λ e. absurd (omega (arith, e, low, h))) ∙ simp (is-a, is_b, div-one))
-      (ap (λ (l : List ℕ). set l 1 b) (byte_after [] d a 0 refl (omega (arith, room))) ∙ byte_after (a ∷ []) d b 1 refl (omega (arith, room)))
+pub three_digits : (n : ℕ) → 100 ≤ n → n < 1000 → decimal n ≡ (48 + n / 100 % 10) ∷ (48 + n / 10 % 10) ∷ (48 + n % 10) ∷ []
+unfolding decimal digits in_places
+three_digits n low h = any_width 10 3 n (omega arith) (omega arith) h ∙ stays (digits 3 n) (λ e. absurd (omega (arith, e, low, h))) ∙ simp div-one
 
-  pub three_digits : {a b c : ℕ} → 100 ≤ n → n < 1000 → a ≡ 48 + n / 100 % 10 → b ≡ 48 + n / 10 % 10 → c ≡ 48 + n % 10 → (3 ≡ length (decimal n)) × (set (set (set d 0 a) 1 b) 2 c ≡ decimal n ++ drop 3 d)
-  unfolding digits in_places
-  three_digits {a} {b} {c} low h is-a is_b is_c =
-      written (a ∷ b ∷ c ∷ []) _ (any_width 10 3 n (omega arith) (omega arith) h ∙ stays (digits 3 n) (λ e. absurd (omega (arith, e, low, h))) ∙ simp (is-a, is_b, is_c, div-one))
-      (ap (λ (l : List ℕ). set (set l 1 b) 2 c) (byte_after [] d a 0 refl (omega (arith, room))) ∙ ap (λ (l : List ℕ). set l 2 c) (byte_after (a ∷ []) d b 1 refl (omega (arith, room))) ∙ byte_after (a ∷ b ∷ []) d c 2 refl (omega (arith, room)))
+-- bytes are written to the start of d
+module _ (d : List ℕ) (room : 3 ≤ length d) (a : ℕ) where
+  pub one_set : set d 0 a ≡ a ∷ drop 1 d
+  one_set = byte_after [] d a 0 refl (omega (arith, room))
+
+  module _ (b : ℕ) where
+    pub two_set : set (set d 0 a) 1 b ≡ a ∷ b ∷ drop 2 d
+    two_set = ap (λ (l : List ℕ). set l 1 b) one_set ∙ byte_after (a ∷ []) d b 1 refl (omega (arith, room))
+
+    pub three_set : (c : ℕ) → set (set (set d 0 a) 1 b) 2 c ≡ a ∷ b ∷ c ∷ drop 3 d
+    three_set c = ap (λ (l : List ℕ). set l 2 c) two_set ∙ byte_after (a ∷ b ∷ []) d c 2 refl (omega (arith, room))
 
 -- ---- the point and nine places after them
 module _ (n : ℕ) where

@@ -45,6 +45,7 @@ fn billionths(n: u64, line: &mut [u8]) -> usize
 }
 
 // The digits of a number below 1,000, without leading zeros, at the start of what is lent.
+#[tactic(auto, using(crate::proofs::Nine::one_digit, crate::proofs::Nine::two_digits, crate::proofs::Nine::three_digits, crate::proofs::Nine::one_set, crate::proofs::Nine::two_set, crate::proofs::Nine::three_set))]
 fn up_to_three(n: u32, line: &mut [u8]) -> usize
     requires { (n < 1000) × (3 ≤ length line.old) }
     ensures value { result ≡ length (decimal n) }

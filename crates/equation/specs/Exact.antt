@@ -30,8 +30,8 @@ x to_the (suc n) = x to_the n times x
 
 -- ---- each term is its whole coefficient times its powers of exact U and V; the value is the sum of the terms
 unfoldable pub exact_of : List Term → Fraction → Fraction → Fraction
-exact_of [] exactU exactV = whole (pos 0)
-exact_of (term c i j ∷ ts) exactU exactV = whole c times (exactU to_the i times exactV to_the j) plus exact_of ts exactU exactV
+exact_of [] exact_u exact_v = whole (pos 0)
+exact_of (term c i j ∷ ts) exact_u exact_v = whole c times (exact_u to_the i times exact_v to_the j) plus exact_of ts exact_u exact_v
 
 -- ---- a whole number is within h / n of a fraction, whose bottom is above zero
 pub record Within (h n : ℕ) (f : Fraction) (x : ℤ) : Type 0 where

@@ -1,5 +1,5 @@
 -- A place that was read is answered, and a line with it: what each return answers, and leaves in the lent buffer. Assumes nothing.
-use mathlib.Core.Path.{◌≡◌, refl, sym, ap, ◌∙◌, subst}
+use mathlib.Core.Path.{◌≡◌, refl, sym, ap, ◌∙◌}
 use mathlib.Core.Bool.{true, ◌&&◌}
 use mathlib.Core.List.{List, [], ◌∷◌, ◌++◌}
 use Prim.Native.Nat.{ℕ}
@@ -88,9 +88,6 @@ module _ (t : List ℕ) (room : ℕ) where
       ∙ sym (waypoint_is ∙ held (text_tests t) _ all.0)
 
 -- in each form
-pub in_form : (said : Said) (out : List ℕ) {known form : Form} → known ≡ form → {a : Answer ℕ} {l : List ℕ} → Written (answered_in known said (length out)) out a l → Written (answered_in form said (length out)) out a l
-in_form said out e {a} {l} w = subst (λ (f : Form). Written (answered_in f said (length out)) out a l) e w
-
 pub read_on : (form : Form) (t : List ℕ) (room : ℕ) {s : Said} → point_said t ≡ gives s → answered_in form s room ≡ line_in form t room
 read_on Numbers t room h = numbers_on t room h ∙ sym (numbers_are t room)
 read_on Waypoints t room h = waypoint_on t room h

@@ -1,15 +1,15 @@
 -- A line that is read, from the answers of its latitude and its longitude. Assumes nothing.
 use mathlib.Core.Path.{◌≡◌, refl, sym, ap, ◌∙◌}
-use mathlib.Core.Bool.{Bool, true, false, not, ◌&&◌, and-true}
+use mathlib.Core.Bool.{Bool, true, false, ◌&&◌, and-true}
 use mathlib.Core.List.{List, [], ◌∷◌}
-use Prim.Native.Nat.{ℕ, ◌-◌, ◌<◌, ◌≤◌}
+use Prim.Native.Nat.{ℕ, ◌-◌, ◌≤◌}
 use native.Mathlib.Omega.{arith}
 use lib.Dec.{eqb, leb}
 use lib.IntN.{ℤ, pos}
 use lib.ListN.{length, get_or}
-use borrow.Author.Tests.{lt-ltb, le-ltb, eq-eqb, ne_eqb, leb-true, not-true, not-false}
+use borrow.Author.Tests.{le-ltb, eq-eqb, ne_eqb, leb-true}
 use mir.Syntax.{w64}
-use mir.Val.{SFits, to_z}
+use mir.Val.{to_z}
 use Rattle.whole.specs.Digits.{is_digit, digit_of}
 use Rattle.whole.proofs.Bools.{both}
 use Rattle.whole.proofs.Words.{Holds, from_unsigned}
@@ -49,10 +49,7 @@ module _ (code north east : ℤ) where
       go true false true true h = refl
       go true true ko ro h = absurd (not_both h)
 
--- the lower number of two
-pub lower : {n m : ℕ} → m < n → m ≡ first_refusal n (refused m)
-lower {n} {m} h = simp (lt-ltb m n h)
-
+-- the lower number of two, where it is the latitude's
 pub not_lower : {n m : ℕ} → n ≤ m → n ≡ first_refusal n (refused m)
 not_lower {n} {m} h = simp (le-ltb m n h)
 
@@ -84,9 +81,9 @@ module _ (t : List ℕ) where
   wrong_length h = simp (ne_eqb (length t) 26 h)
 
   module _ (long : length t ≡ 26) where
-    pub wrong_kind : not between ≡ true → refused 2 ≡ point_said t
+    pub wrong_kind : between ≡ false → refused 2 ≡ point_said t
     unfolding point_said
-    wrong_kind h = simp (eq-eqb (length t) 26 long, wrong_first (is_digit (code_byte t)) (eqb (get_or t 1 0) space) (right_kinds latitude (latitude_text t)) (eqb (get_or t 13 0) space) (right_kinds longitude (longitude_text t)) (not-true between h))
+    wrong_kind h = simp (eq-eqb (length t) 26 long, wrong_first (is_digit (code_byte t)) (eqb (get_or t 1 0) space) (right_kinds latitude (latitude_text t)) (eqb (get_or t 13 0) space) (right_kinds longitude (longitude_text t)) h)
 
     latitude_is : read latitude (latitude_text t) ≡ tested (right_kinds latitude (latitude_text t)) (right_ranges latitude (latitude_text t)) (value latitude (latitude_text t))
     latitude_is = right_length latitude (latitude_text t) (length_part 2 11 t (omega (arith, long)))
@@ -94,24 +91,18 @@ module _ (t : List ℕ) where
     longitude_is : read longitude (longitude_text t) ≡ tested (right_kinds longitude (longitude_text t)) (right_ranges longitude (longitude_text t)) (value longitude (longitude_text t))
     longitude_is = right_length longitude (longitude_text t) (length_part 14 12 t (omega (arith, long)))
 
-    module _ (right : not between ≡ false) where
+    module _ (right : between ≡ true) where
       digit_and_spaces : (is_digit (code_byte t) ≡ true) × ((eqb (get_or t 1 0) space ≡ true) × (eqb (get_or t 13 0) space ≡ true))
       digit_and_spaces =
-          let a = both (is_digit (code_byte t) && eqb (get_or t 1 0) space) (eqb (get_or t 13 0) space) (not-false between right) in
+          let a = both (is_digit (code_byte t) && eqb (get_or t 1 0) space) (eqb (get_or t 13 0) space) right in
           let b = both (is_digit (code_byte t)) (eqb (get_or t 1 0) space) a.0 in
           (b.0, (b.1, a.1))
-
-      pub from_zero : 48 ≤ get_or t 0 0
-      from_zero = leb-true 48 (get_or t 0 0) (both (leb 48 (get_or t 0 0)) (leb (get_or t 0 0) 57) digit_and_spaces.0).0
 
       to_nine : get_or t 0 0 ≤ 57
       to_nine = leb-true (get_or t 0 0) 57 (both (leb 48 (get_or t 0 0)) (leb (get_or t 0 0) 57) digit_and_spaces.0).1
 
       code_held : Holds w64 (get_or t 0 0 - 48) (pos (get_or t 0 0 - 48))
       code_held = from_unsigned (omega (arith, to_nine))
-
-      pub code_fits : SFits w64 (pos (get_or t 0 0 - 48))
-      code_fits = code_held.holds
 
       together_is : together (code t) (value latitude (latitude_text t)) (value longitude (longitude_text t)) (right_kinds latitude (latitude_text t)) (right_ranges latitude (latitude_text t)) (right_kinds longitude (longitude_text t)) (right_ranges longitude (longitude_text t)) ≡ point_said t
       unfolding point_said

@@ -6,8 +6,8 @@ use native.Mathlib.Omega.{arith}
 use lib.IntN.{ℤ}
 use lib.ListN.{length, take, drop, set, replicate, length-append}
 use borrow.Rule.Slice.PartMut.{put_mid}
-use Rattle.kinds.proofs.Writing.{byte_after, rest_long, still_long, grown_by}
-use Rattle.tables.specs.Page.{Family, shift, geoid}
+use Rattle.kinds.proofs.Writing.{byte_after, rest_long, grown_by}
+use Rattle.tables.specs.Page.{shift, geoid}
 use Rattle.decimal.specs.Decimal.{printed_number}
 use Rattle.waypoint.specs.Waypoint.{element}
 use Rattle.waypoint.specs.Inside.{Printable}
@@ -36,9 +36,6 @@ module _ (x : ℤ) (d : List ℕ) (room : 36 ≤ length d) where
     first_short : r₁ ≤ 12
     first_short = omega (arith, is-r₁, printed_short x)
 
-    pub second_starts : r₁ ≤ length e₁
-    second_starts = omega (arith, first_short, room, still_long (field x space) d is-e₁ first_long (omega (arith, first_short, room)))
-
     pub second_room : 12 ≤ length (take (length e₁ - r₁) (drop r₁ e₁))
     second_room = omega (arith, first_short, room, rest_long (field x space) d is-e₁ first_long)
 
@@ -55,9 +52,6 @@ module _ (x : ℤ) (d : List ℕ) (room : 36 ≤ length d) where
       pub second_short : r₁ + r₂ ≤ 24
       second_short = omega (arith, first_short, is-r₂, printed_short y)
 
-      pub third_starts : r₁ + r₂ ≤ length e₂
-      third_starts = omega (arith, second_short, room, still_long (field x space ++ field y space) d is-e₂ second_long (omega (arith, second_short, room)))
-
       pub third_room : 12 ≤ length (take (length e₂ - (r₁ + r₂)) (drop (r₁ + r₂) e₂))
       third_room = omega (arith, second_short, room, rest_long (field x space ++ field y space) d is-e₂ second_long)
 
@@ -70,12 +64,6 @@ module _ (x : ℤ) (d : List ℕ) (room : 36 ≤ length d) where
 
         third_long : r₁ + r₂ + r₃ ≡ length ((field x space ++ field y space) ++ field z line_feed)
         third_long = omega (arith, length-append (field x space ++ field y space) (field z line_feed), second_long, is-r₃, field_long z line_feed)
-
-        pub third_short : r₁ + r₂ + r₃ ≤ 36
-        third_short = omega (arith, second_short, is-r₃, printed_short z)
-
-        pub as_long : length e₃ ≡ length d
-        as_long = still_long ((field x space ++ field y space) ++ field z line_feed) d is-e₃ third_long (omega (arith, third_short, room))
 
         -- a, b and c are the numbers that the code holds as x, y and z
         pub shift_written : {a b c : ℤ} → x ≡ a → y ≡ b → z ≡ c → (r₁ + r₂ + r₃ ≡ length (answer_line (shift a b c))) × (e₃ ≡ answer_line (shift a b c) ++ drop (r₁ + r₂ + r₃) d)

@@ -18,6 +18,7 @@ use numbers::four;
 
 // Reads the 11 bytes `ddmmss.sssN` or `S` into ms, north positive: `900000.000N` is 324000000. Refused: 1 another length, 2 a
 // byte that is not of its kind, 3 minutes or seconds from 60 up, past 90°, or S after zero.
+#[tactic(auto, using(crate::proofs::Reading::wrong_length))]
 pub fn read_latitude(text: &[u8]) -> LocalLatitudeAnswer
     ensures { local_latitude result ≡ read latitude text.now }
 {
@@ -40,6 +41,7 @@ pub fn read_latitude(text: &[u8]) -> LocalLatitudeAnswer
 
 // Reads the 12 bytes `dddmmss.sssE` into ms, east positive: `0330000.000E` is 118800000. Refused: 1 another length, 2 a byte
 // that is not of its kind, 3 minutes or seconds from 60 up, or from 360° up.
+#[tactic(auto, using(crate::proofs::Reading::wrong_length))]
 pub fn read_longitude(text: &[u8]) -> LocalLongitudeAnswer
     ensures { local_longitude result ≡ read longitude text.now }
 {

@@ -1,58 +1,65 @@
-// How the test programs read what they are asked, on standard input: a letter, and after it numbers, texts and counts, as
-// tests/program.py writes them. Past the end of the input a letter is 0, and so is a number; a text has no bytes.
-ghost use Rattle.io.specs.Counts.{IsPrefixLen};
+// How the test programs read what they are asked: a letter, and after it numbers, texts and counts, as tests/program.py writes them.
+// Past the end of the input a letter is 0, and so is a number; a text has no bytes.
+#![tactic(auto)]
 
-use libc::{STDIN_FILENO, STDOUT_FILENO};
+ghost use Rattle.std.specs.Io.{ReadsAtMost};
+
+use std::io;
+use std::io::{Read, Write};
 
 // The letter of a question.
-pub fn letter() -> u8 {
+pub fn letter<R: Read>(questions: &mut R) -> io::Result<u8> {
     let mut read = [0; 1];
-    io::read_full(STDIN_FILENO, &mut read);
-    read[0]
+    fill(questions, &mut read)?;
+    Ok(read[0])
 }
 
 // A number, in the eight bytes of its two's complement.
-pub fn number() -> i64 {
+pub fn number<R: Read>(questions: &mut R) -> io::Result<i64> {
     let mut read = [0; 8];
-    io::read_full(STDIN_FILENO, &mut read);
-    (four(read[0], read[1], read[2], read[3]) << 32) | four(read[4], read[5], read[6], read[7])
-}
-
-fn four(a: u8, b: u8, c: u8, d: u8) -> i64 {
-    ((a as i64) << 24) | ((b as i64) << 16) | ((c as i64) << 8) | (d as i64)
+    fill(questions, &mut read)?;
+    Ok(i64::from_be_bytes(read))
 }
 
 // A count, in two bytes.
-fn count() -> isize {
+fn count<R: Read>(questions: &mut R) -> io::Result<usize> {
     let mut read = [0; 2];
-    io::read_full(STDIN_FILENO, &mut read);
-    two(read[0], read[1])
+    fill(questions, &mut read)?;
+    Ok(usize::from(u16::from_be_bytes(read)))
 }
 
-fn two(a: u8, b: u8) -> isize {
-    ((a as isize) << 8) | (b as isize)
+// Reads until a buffer is full or the input ends. What no byte came for stays as it was.
+pub fn fill<R: Read>(questions: &mut R, read: &mut [u8]) -> io::Result<()> {
+    let mut done = 0;
+    while done < read.len() {
+        let n = questions.read(&mut read[done..])?;
+        if n == 0 {
+            break;
+        }
+        done += n;
+    }
+    Ok(())
 }
 
 // How many bytes of a buffer to use: all where more are asked.
-pub fn room(out: &[u8]) -> usize
-    ensures { IsPrefixLen result out.now }
+pub fn room<R: Read>(questions: &mut R, out: &[u8]) -> io::Result<usize>
+    ensures { ReadsAtMost result out.now }
 {
-    io::count(count(), out)
+    Ok(count(questions)?.min(out.len()))
 }
 
 // A text, after its count: as much of it as a buffer holds is put at its start. How much that is.
-pub fn text(out: &mut [u8]) -> usize
-    ensures { IsPrefixLen result out.new }
+pub fn text<R: Read>(questions: &mut R, out: &mut [u8]) -> io::Result<usize>
+    ensures { ReadsAtMost result out.new }
 {
-    let asked = count();
-    let n = io::count(asked, out);
-    io::read_full(STDIN_FILENO, &mut out[..n]);
-    io::count(asked, out)
+    let n = room(questions, out)?;
+    fill(questions, &mut out[..n])?;
+    Ok(n)
 }
 
 // A text that is printed as it stands: what a case is called.
-pub fn label() {
+pub fn label<R: Read, W: Write>(questions: &mut R, answers: &mut W) -> io::Result<()> {
     let mut words = [0; 64];
-    let n = text(&mut words);
-    io::write_all(STDOUT_FILENO, &words[..n]);
+    let n = text(questions, &mut words)?;
+    answers.write_all(&words[..n])
 }

@@ -1,120 +1,164 @@
 // A test program: every exported call, as it is asked, as C would see it: all fields of each answer, and every byte of a lent
 // buffer. tests/calls.py asks, and works out what it must print from the papers.
+#![tactic(auto)]
+
 use buckettin::{Read, Written};
+use std::io;
+use std::io::{BufReader, BufWriter, Write};
 
-fn shift(code: i64, latitude: i64, longitude: i64) {
+fn shift<W: Write>(answers: &mut W, code: i64, latitude: i64, longitude: i64) -> io::Result<()> {
     let shift = buckettin::buckettin_shift(code, latitude, longitude);
-    test_show::number(shift.refusal as i64);
-    test_show::three(shift.dlat, shift.dlon, shift.dh);
+    test_show::number(answers, i64::from(shift.refusal))?;
+    test_show::three(answers, shift.dlat, shift.dlon, shift.dh)
 }
 
-fn geoid(code: i64, latitude: i64, longitude: i64) {
+fn geoid<W: Write>(answers: &mut W, code: i64, latitude: i64, longitude: i64) -> io::Result<()> {
     let geoid = buckettin::buckettin_geoid(code, latitude, longitude);
-    test_show::number(geoid.refusal as i64);
-    test_show::four_bytes(geoid.n);
+    test_show::number(answers, i64::from(geoid.refusal))?;
+    test_show::four_bytes(answers, geoid.n)
 }
 
-fn floats(code: i64, latitude: i64, longitude: i64) {
-    test_show::float(buckettin::buckettin_first(code, latitude, longitude));
-    test_show::float(buckettin::buckettin_second(code, latitude, longitude));
-    test_show::float(buckettin::buckettin_third(code, latitude, longitude));
-    test_show::number(buckettin::buckettin_refusal(code, latitude, longitude) as i64);
+fn floats<W: Write>(answers: &mut W, code: i64, latitude: i64, longitude: i64) -> io::Result<()> {
+    test_show::float(
+        answers,
+        buckettin::buckettin_first(code, latitude, longitude),
+    )?;
+    test_show::float(
+        answers,
+        buckettin::buckettin_second(code, latitude, longitude),
+    )?;
+    test_show::float(
+        answers,
+        buckettin::buckettin_third(code, latitude, longitude),
+    )?;
+    let refusal = buckettin::buckettin_refusal(code, latitude, longitude);
+    test_show::number(answers, i64::from(refusal))
 }
 
 // A point through the six calls that take one.
-fn point(code: i64, latitude: i64, longitude: i64) {
-    shift(code, latitude, longitude);
-    geoid(code, latitude, longitude);
-    floats(code, latitude, longitude);
+fn point<W: Write>(answers: &mut W, code: i64, latitude: i64, longitude: i64) -> io::Result<()> {
+    shift(answers, code, latitude, longitude)?;
+    geoid(answers, code, latitude, longitude)?;
+    floats(answers, code, latitude, longitude)
 }
 
-fn said_read(read: Read) {
-    test_show::number(read.refusal as i64);
-    test_show::four_bytes(read.ms);
+fn said_read<W: Write>(answers: &mut W, read: Read) -> io::Result<()> {
+    test_show::number(answers, i64::from(read.refusal))?;
+    test_show::four_bytes(answers, read.ms)
 }
 
 // A text as a latitude and as a longitude.
-fn text() {
+fn text<R: io::Read, W: Write>(questions: &mut R, answers: &mut W) -> io::Result<()> {
     let mut text = [0; 20];
-    let n = test_ask::text(&mut text);
-    said_read(buckettin::buckettin_read_latitude(&text[..n]));
-    said_read(buckettin::buckettin_read_longitude(&text[..n]));
+    let n = test_ask::text(questions, &mut text)?;
+    said_read(answers, buckettin::buckettin_read_latitude(&text[..n]))?;
+    said_read(answers, buckettin::buckettin_read_longitude(&text[..n]))
 }
 
-fn said_written(written: Written) {
-    test_show::number(written.refusal as i64);
-    test_show::number(written.written as i64);
+fn said_written<W: Write>(answers: &mut W, written: Written) -> io::Result<()> {
+    test_show::number(answers, i64::from(written.refusal))?;
+    test_show::number(answers, i64::from(written.written))
 }
 
-fn latitude(ms: i64, out: &mut [u8]) {
-    let room = test_ask::room(out);
+fn latitude<R: io::Read, W: Write>(
+    questions: &mut R,
+    answers: &mut W,
+    out: &mut [u8],
+) -> io::Result<()> {
+    let ms = test_ask::number(questions)?;
+    let room = test_ask::room(questions, out)?;
     let written = buckettin::buckettin_write_latitude(ms, &mut out[..room]);
-    said_written(written);
-    test_show::text(out);
+    said_written(answers, written)?;
+    test_show::text(answers, out)
 }
 
-fn longitude(ms: i64, out: &mut [u8]) {
-    let room = test_ask::room(out);
+fn longitude<R: io::Read, W: Write>(
+    questions: &mut R,
+    answers: &mut W,
+    out: &mut [u8],
+) -> io::Result<()> {
+    let ms = test_ask::number(questions)?;
+    let room = test_ask::room(questions, out)?;
     let written = buckettin::buckettin_write_longitude(ms, &mut out[..room]);
-    said_written(written);
-    test_show::text(out);
+    said_written(answers, written)?;
+    test_show::text(answers, out)
 }
 
-fn line(out: &mut [u8]) {
+fn line<R: io::Read, W: Write>(
+    questions: &mut R,
+    answers: &mut W,
+    out: &mut [u8],
+) -> io::Result<()> {
     let mut text = [0; 40];
-    let n = test_ask::text(&mut text);
-    let room = test_ask::room(out);
+    let n = test_ask::text(questions, &mut text)?;
+    let room = test_ask::room(questions, out)?;
     let written = buckettin::buckettin_line(&text[..n], &mut out[..room]);
-    said_written(written);
-    test_show::text(out);
+    said_written(answers, written)?;
+    test_show::text(answers, out)
 }
 
-fn sheet(unit: i64, out: &mut [u8]) {
+fn sheet<R: io::Read, W: Write>(
+    questions: &mut R,
+    answers: &mut W,
+    out: &mut [u8],
+) -> io::Result<()> {
+    let unit = test_ask::number(questions)?;
     let mut bytes = [0; 20];
-    let n = test_ask::text(&mut bytes);
-    let room = test_ask::room(out);
+    let n = test_ask::text(questions, &mut bytes)?;
+    let room = test_ask::room(questions, out)?;
     let written = buckettin::buckettin_sheet(unit, &bytes[..n], &mut out[..room]);
-    said_written(written);
-    test_show::bytes(out);
+    said_written(answers, written)?;
+    test_show::bytes(answers, out)
 }
 
-fn waypoint(code: i64, latitude: i64, longitude: i64, out: &mut [u8]) {
-    let room = test_ask::room(out);
+fn waypoint<R: io::Read, W: Write>(
+    questions: &mut R,
+    answers: &mut W,
+    out: &mut [u8],
+) -> io::Result<()> {
+    let code = test_ask::number(questions)?;
+    let latitude = test_ask::number(questions)?;
+    let longitude = test_ask::number(questions)?;
+    let room = test_ask::room(questions, out)?;
     let written = buckettin::buckettin_waypoint(code, latitude, longitude, &mut out[..room]);
-    said_written(written);
-    test_show::text(out);
+    said_written(answers, written)?;
+    test_show::text(answers, out)
 }
 
-fn answer(letter: u8) {
+fn answer<R: io::Read, W: Write>(questions: &mut R, answers: &mut W, letter: u8) -> io::Result<()> {
     match letter {
-        b'=' => test_ask::label(),
-        b'p' => point(test_ask::number(), test_ask::number(), test_ask::number()),
-        b't' => text(),
-        b'a' => latitude(test_ask::number(), &mut [b'#'; 14]),
-        b'o' => longitude(test_ask::number(), &mut [b'#'; 14]),
-        b'l' => line(&mut [b'#'; 24]),
-        b's' => sheet(test_ask::number(), &mut [b'#'; 20]),
-        b'w' => waypoint(
-            test_ask::number(),
-            test_ask::number(),
-            test_ask::number(),
-            &mut [b'#'; 50],
+        b'=' => test_ask::label(questions, answers),
+        b'p' => point(
+            answers,
+            test_ask::number(questions)?,
+            test_ask::number(questions)?,
+            test_ask::number(questions)?,
         ),
-        _ => {}
+        b't' => text(questions, answers),
+        b'a' => latitude(questions, answers, &mut [b'#'; 14]),
+        b'o' => longitude(questions, answers, &mut [b'#'; 14]),
+        b'l' => line(questions, answers, &mut [b'#'; 24]),
+        b's' => sheet(questions, answers, &mut [b'#'; 20]),
+        b'w' => waypoint(questions, answers, &mut [b'#'; 50]),
+        _ => Ok(()),
     }
 }
 
 // Whether something was asked.
-fn turn() -> bool {
-    let letter = test_ask::letter();
-    answer(letter);
-    letter != 0
+fn turn<R: io::Read, W: Write>(questions: &mut R, answers: &mut W) -> io::Result<bool> {
+    let letter = test_ask::letter(questions)?;
+    answer(questions, answers, letter)?;
+    Ok(letter != 0)
 }
 
 // The count of turns is there to end: no input has so many.
-fn main() {
-    let mut turns = u64::MAX;
-    while turns > 0 && turn() {
-        turns -= 1;
+fn main(rt: HostRuntime) -> io::Result<()> {
+    let mut questions = BufReader::new(rt.alloc(), rt.reader())?;
+    let mut answers = BufWriter::new(rt.alloc(), io::writer(&rt))?;
+    for _ in 0..u64::MAX {
+        if !turn(&mut questions, &mut answers)? {
+            break;
+        }
     }
+    answers.flush()
 }

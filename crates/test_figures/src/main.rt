@@ -1,82 +1,102 @@
 // A test program: quotients, powers, kinds and an area at the edges of the machine's numbers and of each range, as it is asked.
 // tests/pages.py asks, and works out what it must print from the papers.
+#![tactic(auto)]
+
 mod made;
 mod west;
 
 use kinds::Refusal;
+use std::io;
+use std::io::{BufReader, BufWriter, Read, Write};
 
 // A number over another, from 2 to 2^62: none below or above.
-fn quotient(n: i64, d: u64) {
+fn quotient<W: Write>(answers: &mut W, n: i64, d: u64) -> io::Result<()> {
     if 2 <= d {
         if d <= 4_611_686_018_427_387_904 {
-            test_show::number(whole::rounded(n, d));
+            test_show::number(answers, whole::rounded(n, d))?;
         }
     }
+    Ok(())
 }
 
 // The powers of the size of u from the second to the ninth: none where it is larger than 2.55.
-fn powers(u: i64) {
+fn powers<W: Write>(answers: &mut W, u: i64) -> io::Result<()> {
     if whole::size(u) <= 255_000_000 {
         let p = equation::size_powers(whole::Parts(u));
-        test_show::number(p[2]);
-        test_show::number(p[3]);
-        test_show::number(p[4]);
-        test_show::number(p[5]);
-        test_show::number(p[6]);
-        test_show::number(p[7]);
-        test_show::number(p[8]);
-        test_show::number(p[9]);
+        for power in &p[2..10] {
+            test_show::number(answers, *power)?;
+        }
     }
+    Ok(())
 }
 
-fn refusals() {
-    test_show::refused(Refusal::Length);
-    test_show::refused(Refusal::Kind);
-    test_show::refused(Refusal::Range);
-    test_show::refused(Refusal::Code);
-    test_show::refused(Refusal::Family);
-    test_show::refused(Refusal::Area);
-    test_show::refused(Refusal::Room);
-    test_show::refused(Refusal::Foreign);
-    test_show::refused(Refusal::Sheet);
+fn refusals<W: Write>(answers: &mut W) -> io::Result<()> {
+    test_show::refused(answers, Refusal::Length)?;
+    test_show::refused(answers, Refusal::Kind)?;
+    test_show::refused(answers, Refusal::Range)?;
+    test_show::refused(answers, Refusal::Code)?;
+    test_show::refused(answers, Refusal::Family)?;
+    test_show::refused(answers, Refusal::Area)?;
+    test_show::refused(answers, Refusal::Room)?;
+    test_show::refused(answers, Refusal::Foreign)?;
+    test_show::refused(answers, Refusal::Sheet)
 }
 
 // A text, put at the start of a buffer, all of which is shown.
-fn put(out: &mut [u8]) {
+fn put<R: Read, W: Write>(questions: &mut R, answers: &mut W, out: &mut [u8]) -> io::Result<()> {
     let mut text = [0; 20];
-    let n = test_ask::text(&mut text);
-    let room = test_ask::room(out);
+    let n = test_ask::text(questions, &mut text)?;
+    let room = test_ask::room(questions, out)?;
     let answer = kinds::put(&text[..n], &mut out[..room]);
-    test_show::written(answer);
-    test_show::text(out);
+    test_show::written(answers, answer)?;
+    test_show::text(answers, out)
 }
 
-fn answer(letter: u8) {
+fn answer<R: Read, W: Write>(questions: &mut R, answers: &mut W, letter: u8) -> io::Result<()> {
     match letter {
-        b'=' => test_ask::label(),
-        b'q' => quotient(test_ask::number(), whole::size(test_ask::number())),
-        b'r' => test_show::number(whole::rounded(test_ask::number(), whole::Parts::DIVISOR)),
-        b'p' => powers(test_ask::number()),
-        b'n' => refusals(),
-        b'k' => made::all(test_ask::number()),
-        b'c' => made::converted(test_ask::number(), test_ask::number()),
-        b'w' => west::held(test_ask::number(), test_ask::number()),
-        b't' => put(&mut [b'#'; 14]),
-        _ => {}
+        b'=' => test_ask::label(questions, answers),
+        b'q' => quotient(
+            answers,
+            test_ask::number(questions)?,
+            whole::size(test_ask::number(questions)?),
+        ),
+        b'r' => test_show::number(
+            answers,
+            whole::rounded(test_ask::number(questions)?, whole::Parts::DIVISOR),
+        ),
+        b'p' => powers(answers, test_ask::number(questions)?),
+        b'n' => refusals(answers),
+        b'k' => made::all(answers, test_ask::number(questions)?),
+        b'c' => made::converted(
+            answers,
+            test_ask::number(questions)?,
+            test_ask::number(questions)?,
+        ),
+        b'w' => west::held(
+            answers,
+            test_ask::number(questions)?,
+            test_ask::number(questions)?,
+        ),
+        b't' => put(questions, answers, &mut [b'#'; 14]),
+        _ => Ok(()),
     }
 }
 
 // Whether something was asked.
-fn turn() -> bool {
-    let letter = test_ask::letter();
-    answer(letter);
-    letter != 0
+fn turn<R: Read, W: Write>(questions: &mut R, answers: &mut W) -> io::Result<bool> {
+    let letter = test_ask::letter(questions)?;
+    answer(questions, answers, letter)?;
+    Ok(letter != 0)
 }
 
 // The count of turns is there to end: no input has so many.
-fn main() {
-    let mut turns = u64::MAX;
-    while turns > 0 && turn() {
-        turns -= 1;
+fn main(rt: HostRuntime) -> io::Result<()> {
+    let mut questions = BufReader::new(rt.alloc(), rt.reader())?;
+    let mut answers = BufWriter::new(rt.alloc(), io::writer(&rt))?;
+    for _ in 0..u64::MAX {
+        if !turn(&mut questions, &mut answers)? {
+            break;
+        }
     }
+    answers.flush()
 }

@@ -1,5 +1,7 @@
 // An area through Greenwich, which none of the six datums has: its west end is negative.
 use kinds::{LocalLatitude, LocalPosition, LocalPositionAnswer};
+use std::io;
+use std::io::Write;
 use tables::{Axis, Frame};
 
 // From 42° to 58° N and from 5° W to 15° E.
@@ -20,14 +22,14 @@ const FRAME: Frame = Frame {
 };
 
 // 1 where it holds a position and 0 where not; nothing of numbers that are no position.
-pub(crate) fn held(latitude: i64, longitude: i64) {
+pub(crate) fn held<W: Write>(answers: &mut W, latitude: i64, longitude: i64) -> io::Result<()> {
     let LocalPositionAnswer::Gives(position) = LocalPosition::new(latitude, longitude) else {
-        return;
+        return Ok(());
     };
     let frame = FRAME;
     if frame.holds(position) {
-        test_show::number(1)
+        test_show::number(answers, 1)
     } else {
-        test_show::number(0)
+        test_show::number(answers, 0)
     }
 }

@@ -2,37 +2,53 @@
 use datum::Shifts;
 use floating::{Answer, ShiftFloats};
 use kinds::{AngleShift, AngleShiftAnswer, Height};
+use std::io;
+use std::io::Write;
 
-fn shifted(shift: ShiftFloats) {
-    test_show::floats(shift.latitude, shift.longitude, shift.height);
+fn shifted<W: Write>(answers: &mut W, shift: ShiftFloats) -> io::Result<()> {
+    test_show::floats(answers, shift.latitude, shift.longitude, shift.height)
 }
 
-pub(crate) fn either(code: i64, latitude: i64, longitude: i64) {
+pub(crate) fn either<W: Write>(
+    answers: &mut W,
+    code: i64,
+    latitude: i64,
+    longitude: i64,
+) -> io::Result<()> {
     match floating::floating(code, latitude, longitude) {
-        Answer::Shift(shift) => shifted(shift),
-        Answer::Geoid(height) => test_show::float(height),
-        Answer::Refused(number) => test_show::refusal(number),
+        Answer::Shift(shift) => shifted(answers, shift),
+        Answer::Geoid(height) => test_show::float(answers, height),
+        Answer::Refused(number) => test_show::refusal(answers, number),
     }
 }
 
 // The four calls for a point.
-pub(crate) fn each(code: i64, latitude: i64, longitude: i64) {
-    test_show::float(floating::first(code, latitude, longitude));
-    test_show::float(floating::second(code, latitude, longitude));
-    test_show::float(floating::third(code, latitude, longitude));
-    test_show::number(floating::refusal(code, latitude, longitude) as i64);
+pub(crate) fn each<W: Write>(
+    answers: &mut W,
+    code: i64,
+    latitude: i64,
+    longitude: i64,
+) -> io::Result<()> {
+    test_show::float(answers, floating::first(code, latitude, longitude))?;
+    test_show::float(answers, floating::second(code, latitude, longitude))?;
+    test_show::float(answers, floating::third(code, latitude, longitude))?;
+    test_show::number(
+        answers,
+        i64::from(floating::refusal(code, latitude, longitude)),
+    )
 }
 
 // The floats of one whole number of 4 bytes as each of the three shifts.
-pub(crate) fn made(n: i64) {
+pub(crate) fn made<W: Write>(answers: &mut W, n: i64) -> io::Result<()> {
     let AngleShiftAnswer::Gives(shift) = AngleShift::new(n) else {
-        return;
+        return Ok(());
     };
     let angle = AngleShift::of(shift.units());
     let height = Height::of(shift.units());
-    shifted(ShiftFloats::of(Shifts {
+    let shifts = Shifts {
         latitude: angle,
         longitude: angle,
         height,
-    }));
+    };
+    shifted(answers, ShiftFloats::of(shifts))
 }

@@ -1,68 +1,82 @@
 // A test program: points through the calls that take one, in units and as floats, as it is asked. tests/pages.py asks, and works
 // out what it must print from the papers.
+#![tactic(auto)]
+
 mod floats;
 
 use datum::{PointAnswer, ShiftAnswer, Shifts};
 use kinds::HeightAnswer;
+use std::io;
+use std::io::{BufReader, BufWriter, Read, Write};
 
-fn shifted(shifts: Shifts) {
+fn shifted<W: Write>(answers: &mut W, shifts: Shifts) -> io::Result<()> {
     test_show::three(
+        answers,
         shifts.latitude.units(),
         shifts.longitude.units(),
         shifts.height.mm(),
-    );
+    )
 }
 
-fn either(code: i64, latitude: i64, longitude: i64) {
+fn either<W: Write>(answers: &mut W, code: i64, latitude: i64, longitude: i64) -> io::Result<()> {
     match datum::answer(code, latitude, longitude) {
-        PointAnswer::Shift(shifts) => shifted(shifts),
-        PointAnswer::Geoid(height) => test_show::four_bytes(height.mm()),
-        PointAnswer::Refused(why) => test_show::refused(why),
+        PointAnswer::Shift(shifts) => shifted(answers, shifts),
+        PointAnswer::Geoid(height) => test_show::four_bytes(answers, height.mm()),
+        PointAnswer::Refused(why) => test_show::refused(answers, why),
     }
 }
 
-fn shift(code: i64, latitude: i64, longitude: i64) {
+fn shift<W: Write>(answers: &mut W, code: i64, latitude: i64, longitude: i64) -> io::Result<()> {
     match datum::shift(code, latitude, longitude) {
-        ShiftAnswer::Gives(shifts) => shifted(shifts),
-        ShiftAnswer::Refused(why) => test_show::refused(why),
+        ShiftAnswer::Gives(shifts) => shifted(answers, shifts),
+        ShiftAnswer::Refused(why) => test_show::refused(answers, why),
     }
 }
 
-fn geoid(code: i64, latitude: i64, longitude: i64) {
+fn geoid<W: Write>(answers: &mut W, code: i64, latitude: i64, longitude: i64) -> io::Result<()> {
     match datum::geoid(code, latitude, longitude) {
-        HeightAnswer::Gives(height) => test_show::four_bytes(height.mm()),
-        HeightAnswer::Refused(why) => test_show::refused(why),
+        HeightAnswer::Gives(height) => test_show::four_bytes(answers, height.mm()),
+        HeightAnswer::Refused(why) => test_show::refused(answers, why),
     }
 }
 
-fn point(code: i64, latitude: i64, longitude: i64) {
-    either(code, latitude, longitude);
-    shift(code, latitude, longitude);
-    geoid(code, latitude, longitude);
-    floats::either(code, latitude, longitude);
-    floats::each(code, latitude, longitude);
+fn point<W: Write>(answers: &mut W, code: i64, latitude: i64, longitude: i64) -> io::Result<()> {
+    either(answers, code, latitude, longitude)?;
+    shift(answers, code, latitude, longitude)?;
+    geoid(answers, code, latitude, longitude)?;
+    floats::either(answers, code, latitude, longitude)?;
+    floats::each(answers, code, latitude, longitude)
 }
 
-fn answer(letter: u8) {
+fn answer<R: Read, W: Write>(questions: &mut R, answers: &mut W, letter: u8) -> io::Result<()> {
     match letter {
-        b'=' => test_ask::label(),
-        b'f' => floats::made(test_ask::number()),
-        b'p' => point(test_ask::number(), test_ask::number(), test_ask::number()),
-        _ => {}
+        b'=' => test_ask::label(questions, answers),
+        b'f' => floats::made(answers, test_ask::number(questions)?),
+        b'p' => point(
+            answers,
+            test_ask::number(questions)?,
+            test_ask::number(questions)?,
+            test_ask::number(questions)?,
+        ),
+        _ => Ok(()),
     }
 }
 
 // Whether something was asked.
-fn turn() -> bool {
-    let letter = test_ask::letter();
-    answer(letter);
-    letter != 0
+fn turn<R: Read, W: Write>(questions: &mut R, answers: &mut W) -> io::Result<bool> {
+    let letter = test_ask::letter(questions)?;
+    answer(questions, answers, letter)?;
+    Ok(letter != 0)
 }
 
 // The count of turns is there to end: no input has so many.
-fn main() {
-    let mut turns = u64::MAX;
-    while turns > 0 && turn() {
-        turns -= 1;
+fn main(rt: HostRuntime) -> io::Result<()> {
+    let mut questions = BufReader::new(rt.alloc(), rt.reader())?;
+    let mut answers = BufWriter::new(rt.alloc(), io::writer(&rt))?;
+    for _ in 0..u64::MAX {
+        if !turn(&mut questions, &mut answers)? {
+            break;
+        }
     }
+    answers.flush()
 }

@@ -1,35 +1,43 @@
 // A test program, one line at a time: answers lines into lent buffers, as it is asked. tests/lines.py asks, and works out what
 // it must print from the papers.
+#![tactic(auto)]
+
+use std::io;
+use std::io::{BufReader, BufWriter, Read, Write};
 
 // A line, answered into the start of a buffer, all of which is shown.
-fn into(out: &mut [u8]) {
+fn into<R: Read, W: Write>(questions: &mut R, answers: &mut W, out: &mut [u8]) -> io::Result<()> {
     let mut text = [0; 40];
-    let n = test_ask::text(&mut text);
-    let room = test_ask::room(out);
+    let n = test_ask::text(questions, &mut text)?;
+    let room = test_ask::room(questions, out)?;
     let answer = line::line(&text[..n], &mut out[..room]);
-    test_show::written(answer);
-    test_show::text(out);
+    test_show::written(answers, answer)?;
+    test_show::text(answers, out)
 }
 
-fn answer(letter: u8) {
+fn answer<R: Read, W: Write>(questions: &mut R, answers: &mut W, letter: u8) -> io::Result<()> {
     match letter {
-        b'=' => test_ask::label(),
-        b'l' => into(&mut [b'#'; 40]),
-        _ => {}
+        b'=' => test_ask::label(questions, answers),
+        b'l' => into(questions, answers, &mut [b'#'; 40]),
+        _ => Ok(()),
     }
 }
 
 // Whether something was asked.
-fn turn() -> bool {
-    let letter = test_ask::letter();
-    answer(letter);
-    letter != 0
+fn turn<R: Read, W: Write>(questions: &mut R, answers: &mut W) -> io::Result<bool> {
+    let letter = test_ask::letter(questions)?;
+    answer(questions, answers, letter)?;
+    Ok(letter != 0)
 }
 
 // The count of turns is there to end: no input has so many.
-fn main() {
-    let mut turns = u64::MAX;
-    while turns > 0 && turn() {
-        turns -= 1;
+fn main(rt: HostRuntime) -> io::Result<()> {
+    let mut questions = BufReader::new(rt.alloc(), rt.reader())?;
+    let mut answers = BufWriter::new(rt.alloc(), io::writer(&rt))?;
+    for _ in 0..u64::MAX {
+        if !turn(&mut questions, &mut answers)? {
+            break;
+        }
     }
+    answers.flush()
 }

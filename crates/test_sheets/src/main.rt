@@ -1,81 +1,106 @@
 // A test program, the unit sheet: works sheets into lent buffers, as it is asked. tests/sheets.py asks, and works out what it
 // must print from the papers.
+#![tactic(auto)]
+
 use kinds::WrittenAnswer;
+use std::io;
+use std::io::{BufReader, BufWriter, Read, Write};
 
 // A sheet, worked into the start of a buffer, all of which is shown.
-fn into(unit: i64, sheet: &[u8], out: &mut [u8]) {
-    let room = test_ask::room(out);
+fn into<R: Read, W: Write>(
+    questions: &mut R,
+    answers: &mut W,
+    unit: i64,
+    sheet: &[u8],
+    out: &mut [u8],
+) -> io::Result<()> {
+    let room = test_ask::room(questions, out)?;
     let answer = sheet::work(unit, sheet, &mut out[..room]);
-    test_show::written(answer);
-    test_show::bytes(out);
+    test_show::written(answers, answer)?;
+    test_show::bytes(answers, out)
 }
 
 // A sheet for a unit, with the size of the buffer: two bytes more than 500 points take, at most.
-fn one() {
-    let unit = test_ask::number();
+fn one<R: Read, W: Write>(questions: &mut R, answers: &mut W) -> io::Result<()> {
+    let unit = test_ask::number(questions)?;
     let mut sheet = [0; 4522];
-    let n = test_ask::text(&mut sheet);
+    let n = test_ask::text(questions, &mut sheet)?;
     let mut out = [b'#'; 6508];
-    let size = test_ask::room(&out);
-    into(unit, &sheet[..n], &mut out[..size]);
+    let size = test_ask::room(questions, &out)?;
+    into(questions, answers, unit, &sheet[..n], &mut out[..size])
 }
 
 // The next sheet, for unit 7: the digit of its refusal, or of its first point's, or 0. Whether there is one.
-fn tried(out: &mut [u8]) -> bool {
-    if test_ask::letter() != b'+' {
-        return false;
+fn tried<R: Read, W: Write>(
+    questions: &mut R,
+    answers: &mut W,
+    out: &mut [u8],
+) -> io::Result<bool> {
+    if test_ask::letter(questions)? != b'+' {
+        return Ok(false);
     }
     let mut sheet = [0; 38];
-    let n = test_ask::text(&mut sheet);
+    let n = test_ask::text(questions, &mut sheet)?;
     match sheet::work(7, &sheet[..n], out) {
-        WrittenAnswer::Gives(_) => first(out),
-        WrittenAnswer::Refused(why) => test_show::digit(why.number()),
+        WrittenAnswer::Gives(_) => first(answers, out)?,
+        WrittenAnswer::Refused(why) => test_show::digit(answers, why.number())?,
     }
-    true
+    Ok(true)
 }
 
 // The first byte after the serial and the count of points.
-fn first(res: &[u8]) {
+fn first<W: Write>(answers: &mut W, res: &[u8]) -> io::Result<()> {
     if 6 < res.len() {
-        test_show::digit(res[6]);
+        test_show::digit(answers, res[6])?;
     }
+    Ok(())
 }
 
 // Sheets into one buffer.
-fn several(out: &mut [u8]) {
-    let mut left = u64::MAX;
-    while left > 0 && tried(out) {
-        left -= 1;
+fn several<R: Read, W: Write>(
+    questions: &mut R,
+    answers: &mut W,
+    out: &mut [u8],
+) -> io::Result<()> {
+    for _ in 0..u64::MAX {
+        if !tried(questions, answers, out)? {
+            break;
+        }
     }
+    Ok(())
 }
 
 // Sheets into one buffer, which is shown after the last.
-fn all() {
+fn all<R: Read, W: Write>(questions: &mut R, answers: &mut W) -> io::Result<()> {
     let mut out = [b'#'; 47];
-    several(&mut out);
-    test_show::bytes(&out);
+    several(questions, answers, &mut out)?;
+    test_show::bytes(answers, &out)
 }
 
-fn answer(letter: u8) {
+fn answer<R: Read, W: Write>(questions: &mut R, answers: &mut W, letter: u8) -> io::Result<()> {
     match letter {
-        b'=' => test_ask::label(),
-        b'o' => one(),
-        b's' => all(),
-        _ => {}
+        b'=' => test_ask::label(questions, answers),
+        b'o' => one(questions, answers),
+        b's' => all(questions, answers),
+        _ => Ok(()),
     }
 }
 
 // Whether something was asked.
-fn turn() -> bool {
-    let letter = test_ask::letter();
-    answer(letter);
-    letter != 0
+fn turn<R: Read, W: Write>(questions: &mut R, answers: &mut W) -> io::Result<bool> {
+    let letter = test_ask::letter(questions)?;
+    answer(questions, answers, letter)?;
+    Ok(letter != 0)
 }
 
 // The count of turns is there to end: no input has so many.
-fn main() {
-    let mut turns = u64::MAX;
-    while turns > 0 && turn() {
-        turns -= 1;
+fn main(rt: HostRuntime) -> io::Result<()> {
+    let mut questions = BufReader::new(rt.alloc(), rt.reader())?;
+    let mut answers = BufWriter::new(rt.alloc(), io::writer(&rt))?;
+    for _ in 0..u64::MAX {
+        if !turn(&mut questions, &mut answers)? {
+            break;
+        }
     }
+    answers.flush()
 }

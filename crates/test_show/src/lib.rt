@@ -1,104 +1,90 @@
 // How the test programs print answers, each with a space before it: numbers, floats by their bits, bytes, refusals and counts.
+#![tactic(auto)]
+
 use kinds::{Refusal, WrittenAnswer};
-use libc::STDOUT_FILENO;
+use std::io;
+use std::io::Write;
 
-const DIGITS: [u8; 16] = *b"0123456789abcdef";
-
-pub fn number(n: i64) {
-    io::write_all(STDOUT_FILENO, b" ");
-    digits(n);
+pub fn number<W: Write>(answers: &mut W, n: i64) -> io::Result<()> {
+    answers.write_all(b" ")?;
+    digits(answers, n)
 }
 
-fn digits(n: i64) {
+fn digits<W: Write>(answers: &mut W, n: i64) -> io::Result<()> {
     if n < 0 {
-        io::write_all(STDOUT_FILENO, b"-");
+        answers.write_all(b"-")?;
     }
-    io::print_decimal(STDOUT_FILENO, whole::size(n));
+    write!(answers, "{}", whole::size(n))
 }
 
-fn wide(n: i32) -> i64 {
-    n as i64
+pub fn four_bytes<W: Write>(answers: &mut W, n: i32) -> io::Result<()> {
+    number(answers, i64::from(n))
 }
 
-pub fn four_bytes(n: i32) {
-    number(wide(n));
-}
-
-pub fn three(a: i32, b: i32, c: i32) {
-    four_bytes(a);
-    four_bytes(b);
-    four_bytes(c);
+pub fn three<W: Write>(answers: &mut W, a: i32, b: i32, c: i32) -> io::Result<()> {
+    four_bytes(answers, a)?;
+    four_bytes(answers, b)?;
+    four_bytes(answers, c)
 }
 
 // With no space.
-pub fn bracketed(n: i32) {
-    io::write_all(STDOUT_FILENO, b"(");
-    digits(wide(n));
-    io::write_all(STDOUT_FILENO, b")");
+pub fn bracketed<W: Write>(answers: &mut W, n: i32) -> io::Result<()> {
+    answers.write_all(b"(")?;
+    digits(answers, i64::from(n))?;
+    answers.write_all(b")")
 }
 
-// The bits in hexadecimal. A NaN, which alone differs from itself, has no bits that could be asked for.
-pub fn float(x: f64) {
-    if x == x {
-        io::write_all(STDOUT_FILENO, b" ");
-        io::print_hex(STDOUT_FILENO, f64::to_bits(x), 16);
+// The bits in hexadecimal. A NaN has no bits that could be asked for.
+pub fn float<W: Write>(answers: &mut W, x: f64) -> io::Result<()> {
+    if x.is_nan() {
+        answers.write_all(b" nan")
     } else {
-        io::write_all(STDOUT_FILENO, b" nan");
+        write!(answers, " {:016x}", x.to_bits())
     }
 }
 
-pub fn floats(a: f64, b: f64, c: f64) {
-    float(a);
-    float(b);
-    float(c);
+pub fn floats<W: Write>(answers: &mut W, a: f64, b: f64, c: f64) -> io::Result<()> {
+    float(answers, a)?;
+    float(answers, b)?;
+    float(answers, c)
 }
 
 // As they stand.
-pub fn text(bytes: &[u8]) {
-    io::write_all(STDOUT_FILENO, b" ");
-    io::write_all(STDOUT_FILENO, bytes);
+pub fn text<W: Write>(answers: &mut W, bytes: &[u8]) -> io::Result<()> {
+    answers.write_all(b" ")?;
+    answers.write_all(bytes)
 }
 
 // Two digits a byte.
-pub fn bytes(bytes: &[u8]) {
-    io::write_all(STDOUT_FILENO, b" ");
-    let mut i = 0;
-    while i < bytes.len() {
-        byte(bytes[i]);
-        i += 1;
+pub fn bytes<W: Write>(answers: &mut W, bytes: &[u8]) -> io::Result<()> {
+    answers.write_all(b" ")?;
+    for byte in bytes {
+        write!(answers, "{byte:02x}")?;
     }
-}
-
-fn byte(byte: u8) {
-    let high = (byte / 16) as usize;
-    let low = (byte % 16) as usize;
-    io::write_all(STDOUT_FILENO, &[DIGITS[high], DIGITS[low]]);
+    Ok(())
 }
 
 // With no space: one digit of a number below 10.
-pub fn digit(n: u8) {
+pub fn digit<W: Write>(answers: &mut W, n: u8) -> io::Result<()> {
     if n < 10 {
-        io::write_all(STDOUT_FILENO, &[b'0' + n]);
+        write!(answers, "{n}")
     } else {
-        io::print_hex(STDOUT_FILENO, n as u64, 2);
+        write!(answers, "{n:02x}")
     }
 }
 
-pub fn refused(why: Refusal) {
-    refusal(why.number());
+pub fn refused<W: Write>(answers: &mut W, why: Refusal) -> io::Result<()> {
+    refusal(answers, why.number())
 }
 
-pub fn refusal(n: u8) {
-    io::write_all(STDOUT_FILENO, b" refused");
-    number(n as i64);
+pub fn refusal<W: Write>(answers: &mut W, n: u8) -> io::Result<()> {
+    answers.write_all(b" refused")?;
+    number(answers, i64::from(n))
 }
 
-pub fn written(answer: WrittenAnswer) {
+pub fn written<W: Write>(answers: &mut W, answer: WrittenAnswer) -> io::Result<()> {
     match answer {
-        WrittenAnswer::Gives(n) => {
-            io::write_all(STDOUT_FILENO, b" wrote ");
-            io::print_decimal(STDOUT_FILENO, n as u64);
-        }
-        WrittenAnswer::Refused(why) => refused(why),
+        WrittenAnswer::Gives(n) => write!(answers, " wrote {n}"),
+        WrittenAnswer::Refused(why) => refused(answers, why),
     }
 }

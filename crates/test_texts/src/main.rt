@@ -1,76 +1,93 @@
 // A test program, positions as text: reads texts, and writes numbers into lent buffers, as it is asked. tests/pages.py asks, and
 // works out what it must print from the papers.
+#![tactic(auto)]
+
 use kinds::{LocalLatitudeAnswer, LocalLongitudeAnswer};
-use libc::STDIN_FILENO;
+use std::io;
+use std::io::{BufReader, BufWriter, Read, Write};
 
 // A number is printed in brackets, a refusal as its digit alone.
-fn latitude(text: &[u8]) {
+fn latitude<W: Write>(answers: &mut W, text: &[u8]) -> io::Result<()> {
     match position::read_latitude(text) {
-        LocalLatitudeAnswer::Gives(x) => test_show::bracketed(x.ms()),
-        LocalLatitudeAnswer::Refused(why) => test_show::digit(why.number()),
+        LocalLatitudeAnswer::Gives(x) => test_show::bracketed(answers, x.ms()),
+        LocalLatitudeAnswer::Refused(why) => test_show::digit(answers, why.number()),
     }
 }
 
-fn longitude(text: &[u8]) {
+fn longitude<W: Write>(answers: &mut W, text: &[u8]) -> io::Result<()> {
     match position::read_longitude(text) {
-        LocalLongitudeAnswer::Gives(x) => test_show::bracketed(x.ms()),
-        LocalLongitudeAnswer::Refused(why) => test_show::digit(why.number()),
+        LocalLongitudeAnswer::Gives(x) => test_show::bracketed(answers, x.ms()),
+        LocalLongitudeAnswer::Refused(why) => test_show::digit(answers, why.number()),
     }
 }
 
 // A text, read as each.
-fn read() {
+fn read<R: Read, W: Write>(questions: &mut R, answers: &mut W) -> io::Result<()> {
     let mut text = [0; 20];
-    let n = test_ask::text(&mut text);
-    latitude(&text[..n]);
-    longitude(&text[..n]);
+    let n = test_ask::text(questions, &mut text)?;
+    latitude(answers, &text[..n])?;
+    longitude(answers, &text[..n])
 }
 
 // Twelve bytes: the last eleven, read as a latitude, and all, read as a longitude.
-fn read_twelve() {
+fn read_twelve<R: Read, W: Write>(questions: &mut R, answers: &mut W) -> io::Result<()> {
     let mut text = [0; 12];
-    io::read_full(STDIN_FILENO, &mut text);
-    latitude(&text[1..]);
-    longitude(&text);
+    test_ask::fill(questions, &mut text)?;
+    latitude(answers, &text[1..])?;
+    longitude(answers, &text)
 }
 
 // A number, written as each into the start of a buffer, all of which is shown.
-fn latitude_into(ms: i64, out: &mut [u8]) {
-    let room = test_ask::room(out);
+fn latitude_into<R: Read, W: Write>(
+    questions: &mut R,
+    answers: &mut W,
+    out: &mut [u8],
+) -> io::Result<()> {
+    let ms = test_ask::number(questions)?;
+    let room = test_ask::room(questions, out)?;
     let answer = position::write_latitude(ms, &mut out[..room]);
-    test_show::written(answer);
-    test_show::text(out);
+    test_show::written(answers, answer)?;
+    test_show::text(answers, out)
 }
 
-fn longitude_into(ms: i64, out: &mut [u8]) {
-    let room = test_ask::room(out);
+fn longitude_into<R: Read, W: Write>(
+    questions: &mut R,
+    answers: &mut W,
+    out: &mut [u8],
+) -> io::Result<()> {
+    let ms = test_ask::number(questions)?;
+    let room = test_ask::room(questions, out)?;
     let answer = position::write_longitude(ms, &mut out[..room]);
-    test_show::written(answer);
-    test_show::text(out);
+    test_show::written(answers, answer)?;
+    test_show::text(answers, out)
 }
 
-fn answer(letter: u8) {
+fn answer<R: Read, W: Write>(questions: &mut R, answers: &mut W, letter: u8) -> io::Result<()> {
     match letter {
-        b'=' => test_ask::label(),
-        b'r' => read(),
-        b't' => read_twelve(),
-        b'a' => latitude_into(test_ask::number(), &mut [b'#'; 14]),
-        b'o' => longitude_into(test_ask::number(), &mut [b'#'; 14]),
-        _ => {}
+        b'=' => test_ask::label(questions, answers),
+        b'r' => read(questions, answers),
+        b't' => read_twelve(questions, answers),
+        b'a' => latitude_into(questions, answers, &mut [b'#'; 14]),
+        b'o' => longitude_into(questions, answers, &mut [b'#'; 14]),
+        _ => Ok(()),
     }
 }
 
 // Whether something was asked.
-fn turn() -> bool {
-    let letter = test_ask::letter();
-    answer(letter);
-    letter != 0
+fn turn<R: Read, W: Write>(questions: &mut R, answers: &mut W) -> io::Result<bool> {
+    let letter = test_ask::letter(questions)?;
+    answer(questions, answers, letter)?;
+    Ok(letter != 0)
 }
 
 // The count of turns is there to end: no input has so many.
-fn main() {
-    let mut turns = u64::MAX;
-    while turns > 0 && turn() {
-        turns -= 1;
+fn main(rt: HostRuntime) -> io::Result<()> {
+    let mut questions = BufReader::new(rt.alloc(), rt.reader())?;
+    let mut answers = BufWriter::new(rt.alloc(), io::writer(&rt))?;
+    for _ in 0..u64::MAX {
+        if !turn(&mut questions, &mut answers)? {
+            break;
+        }
     }
+    answers.flush()
 }

@@ -1,6 +1,5 @@
 -- Two positions that are printed alike are the same. Assumes nothing.
 use mathlib.Core.Path.{◌≡◌, sym, ap, ◌∙◌}
-use mathlib.Core.Bool.{true}
 use mathlib.Core.List.{List, ◌∷◌, ◌++◌, append_assoc}
 use Prim.Native.Nat.{ℕ}
 use native.Mathlib.Omega.{arith}
@@ -15,7 +14,6 @@ use Rattle.decimal.proofs.Nine.{nine_apart}
 use Rattle.decimal.proofs.Told.{nine_above, told}
 use Rattle.waypoint.specs.Waypoint.{degrees, east_or_west, element, element_of}
 use Rattle.waypoint.specs.Office.{units_of}
-use Rattle.waypoint.specs.Inside.{Printable}
 use Rattle.waypoint.proofs.Degrees.{few_digits, few_wrapped, units_again, longitudes_apart}
 use Rattle.waypoint.proofs.Positions.{printable, of_position}
 

@@ -6,32 +6,17 @@ use Prim.Native.Nat.{ℕ, ◌+◌, ◌-◌, ◌<◌, ◌≤◌}
 use native.Mathlib.Omega.{arith}
 use lib.IntN.{ℤ, nat_abs}
 use lib.ListN.{length, take, drop, length-append}
-use lib.Seq.{take-length}
 use borrow.Rule.Slice.PartMut.{put_mid}
 use Rattle.whole.specs.Every.{every}
 use Rattle.whole.proofs.Every.{every_joined, every_weaker}
 use Rattle.kinds.specs.Bytes.{ascii}
-use Rattle.kinds.proofs.Writing.{rest_long, still_long, grown_by}
+use Rattle.kinds.proofs.Writing.{rest_long, grown_by}
 use Rattle.decimal.specs.Decimal.{nine_places}
 use Rattle.decimal.proofs.Told.{above, nine_above}
 use Rattle.decimal.proofs.Nine.{nine_short, nine_shorter}
 use Rattle.waypoint.specs.Waypoint.{degrees, east_or_west, element}
 use Rattle.waypoint.specs.Inside.{Printable}
 use Rattle.waypoint.proofs.Degrees.{two_digits, few_wrapped}
-
--- ---- a label and its number: d is the line as it came, e the line with the label, and new what was lent for the number
-module _ (label d : List ℕ) {e : List ℕ} {b : ℕ} (is-e : e ≡ take (length label) label ++ drop (length label) d) (is_b : b ≡ length label) where
-  with_label : e ≡ label ++ drop b d
-  with_label = is-e ∙ (λ i. take-length label i ++ drop (sym is_b i) d)
-
-  -- y is z as the code holds it
-  pub label_written : {y z : ℤ} → y ≡ z → {new : List ℕ} {k : ℕ} → k ≡ length (nine_places y) → new ≡ nine_places y ++ drop k (take (length e - b) (drop b e))
-      → (b + k ≡ length (label ++ nine_places z)) × (put_mid b (length e - b) e new ≡ (label ++ nine_places z) ++ drop (b + k) d)
-  label_written {y} {z} same {new} {k} is-k is-new =
-      let text : label ++ nine_places y ≡ label ++ nine_places z = ap (λ (x : ℤ). label ++ nine_places x) same in (
-        omega (arith, is_b, is-k, length-append label (nine_places y)) ∙ ap length text,
-        grown_by label d with_label is_b (nine_places y) new k is-new ∙ ap (λ (t : List ℕ). t ++ drop (b + k) d) text,
-      )
 
 -- ---- the element: d is the line as it came, and of each part r says how many bytes were written and new what was lent for it
 abbrev first : ℤ → List ℕ
@@ -53,9 +38,6 @@ module _ (x : ℤ) (low : nat_abs x < 100000000000) (d : List ℕ) (room : 47 �
     first_short : r₁ ≤ 23
     first_short = omega (arith, is-r₁, length-append (ascii "<wpt lat=\"") (nine_places x), nine_shorter x low)
 
-    pub second_starts : r₁ ≤ length e₁
-    second_starts = omega (arith, first_short, room, still_long (first x) d is-e₁ is-r₁ (omega (arith, first_short, room)))
-
     pub second_room : 21 ≤ length (take (length e₁ - r₁) (drop r₁ e₁))
     second_room = omega (arith, first_short, room, rest_long (first x) d is-e₁ is-r₁)
 
@@ -72,26 +54,18 @@ module _ (x : ℤ) (low : nat_abs x < 100000000000) (d : List ℕ) (room : 47 �
       pub second_short : r₁ + r₂ ≤ 44
       second_short = omega (arith, first_short, is-r₂, length-append (ascii "\" lon=\"") (nine_places y), nine_short y few)
 
-      pub third_starts : r₁ + r₂ ≤ length e₂
-      third_starts = omega (arith, second_short, room, still_long (first x ++ second y) d is-e₂ second_long (omega (arith, second_short, room)))
-
       pub third_room : 3 ≤ length (take (length e₂ - (r₁ + r₂)) (drop (r₁ + r₂) e₂))
       third_room = omega (arith, second_short, room, rest_long (first x ++ second y) d is-e₂ second_long)
 
-      module _ {r₃ : ℕ} {new₃ : List ℕ} (is-r₃ : r₃ ≡ 3) (is-new₃ : new₃ ≡ last ++ drop 3 (take (length e₂ - (r₁ + r₂)) (drop (r₁ + r₂) e₂))) where
+      module _ {r₃ : ℕ} {new₃ : List ℕ} (is-r₃ : r₃ ≡ 3) (is-new₃ : new₃ ≡ last ++ drop r₃ (take (length e₂ - (r₁ + r₂)) (drop (r₁ + r₂) e₂))) where
         abbrev e₃ : List ℕ
         e₃ = put_mid (r₁ + r₂) (length e₂ - (r₁ + r₂)) e₂ new₃
 
         is-e₃ : e₃ ≡ ((first x ++ second y) ++ last) ++ drop (r₁ + r₂ + r₃) d
-        is-e₃ =
-            grown_by (first x ++ second y) d is-e₂ second_long last new₃ r₃
-            (is-new₃ ∙ ap (λ (n : ℕ). last ++ drop n (take (length e₂ - (r₁ + r₂)) (drop (r₁ + r₂) e₂))) (sym is-r₃))
+        is-e₃ = grown_by (first x ++ second y) d is-e₂ second_long last new₃ r₃ is-new₃
 
         third_long : r₁ + r₂ + r₃ ≡ length ((first x ++ second y) ++ last)
         third_long = omega (arith, length-append (first x ++ second y) last, second_long, is-r₃)
-
-        pub as_long : length e₃ ≡ length d
-        as_long = still_long ((first x ++ second y) ++ last) d is-e₃ third_long (omega (arith, second_short, is-r₃, room))
 
         -- x and y are the degrees of a position
         pub element_written : (latitude longitude : ℤ) → x ≡ degrees latitude → y ≡ east_or_west (degrees longitude)

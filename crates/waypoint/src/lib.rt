@@ -1,4 +1,6 @@
 // The drawing office's waypoint: a point of codes 1 to 4 on WGS 84, in decimal degrees, as an element of a GPX 1.1 file.
+#![tactic(auto)]
+
 ghost use Rattle.std.specs.Prelude.{◌≡◌, ◌++◌, ◌+◌, ◌<◌, ◌≤◌, nat_abs, length, drop};
 ghost use Rattle.kinds.specs.Answer.{placed, counted, lent};
 ghost use Rattle.kinds.specs.Cases.{written};

@@ -7,7 +7,7 @@ use Rattle.kinds.specs.Kinds.{is_longitude, tested}
 use Rattle.kinds.proofs.Bytes.{at}
 use Rattle.position.specs.Text.{latitude, longitude, letter_e, letter, is_letter, is_angle, in_sixties, angle}
 use Rattle.position.proofs.Bytes.{rest, longitude_is_angle, longitude_in_sixties, longitude_angle}
-use Rattle.position.proofs.Reading.{two_fail, wrong_length, wrong_kind, not_south, not_said, said, past_a_turn}
+use Rattle.position.proofs.Reading.{two_fail, wrong_kind, not_south, not_said, said, past_a_turn}
 use Rattle.position.proofs.read_longitude.Goals as goal
 
 -- a text of the right length, by its first byte and the rest
@@ -34,13 +34,10 @@ module _ (t : List ℕ) (long : length t ≡ 12) where
   sixties : {b : Bool} → in_sixties longitude t ≡ b → s ≡ b
   sixties h = longitude_in_sixties t long ∙ h
 
-pub returns-then-text-ne-LONGITUDE_BYTES : goal.returns-then-text-ne-LONGITUDE_BYTES
-returns-then-text-ne-LONGITUDE_BYTES c = wrong_length longitude _ c.if-text-ne-LONGITUDE_BYTES.true
-
 pub returns-then-not-is_digit-letter : goal.returns-then-not-is_digit-letter
 returns-then-not-is_digit-letter c =
     let t = c.args.text.now in
-    let long = c.if-text-ne-LONGITUDE_BYTES.false in
+    let long : length t ≡ 12 = omega arith in
     let h : (is_digit (at t 0) && is_letter longitude (letter longitude t)) ≡ false =
     simp (← c.is_digit.ensures) c.if-not-is_digit-letter.true in
     wrong_kind longitude t long
@@ -49,7 +46,7 @@ returns-then-not-is_digit-letter c =
 pub returns-then-ms-eq-WRONG_KIND : goal.returns-then-ms-eq-WRONG_KIND
 returns-then-ms-eq-WRONG_KIND c =
     let t = c.args.text.now in
-    let long = c.if-text-ne-LONGITUDE_BYTES.false in
+    let long : length t ≡ 12 = omega arith in
     let f = first t long c.is_digit.ensures c.if-not-is_digit-letter.false in
     wrong_kind longitude t long
     (simp (angles t long f.0 (not_said (a t long) (s t long) (m t long) c.read_angle-ms.ensures c.if-ms-eq-WRONG_KIND.true)))
@@ -57,7 +54,7 @@ returns-then-ms-eq-WRONG_KIND c =
 pub returns : goal.returns
 returns c =
     let t = c.args.text.now in
-    let long = c.if-text-ne-LONGITUDE_BYTES.false in
+    let long : length t ≡ 12 = omega arith in
     let f = first t long c.is_digit.ensures c.if-not-is_digit-letter.false in
     let r = said (a t long) (s t long) (m t long) c.read_angle-ms.ensures c.if-ms-eq-WRONG_KIND.false in
     let n = c.digit.result * 360000000 + c.read_angle-ms.result in

@@ -1,0 +1,40 @@
+use Rattle.std.proofs.Common.{refl, ◌∙◌, rules}
+use mir.Syntax.{w64}
+use mir.Val.{SFits}
+use Rattle.whole.proofs.Words.{of, widened}
+use Rattle.datum.specs.Cases.{shift_says, geoid_says}
+use Rattle.line.specs.Inside.{place_says}
+use Rattle.line.proofs.Calls.{value_answered, point_refused}
+use Rattle.line.proofs.in_numbers.Goals as goal
+
+pub returns-in-Shift : goal.returns-in-Shift
+returns-in-Shift c =
+    let code : SFits w64 c.args.place.code = search rules in
+    let w =
+    value_answered (place_says c.args.place) (of code).reads
+    ((widened (record { sfits = c.ms.type_inv })).reads ∙ c.ms.ensures)
+    ((widened (record { sfits = c.ms-2.type_inv })).reads ∙ c.ms-2.ensures)
+    (shift_says c.in-Shift.shifts) c.args.out.now c.answer.ensures c.in-Shift.is refl
+    (c.put_shift.ensures.result_value, c.put_shift.ensures.out_after) in
+    record { result_value = w.0; out_after = w.1 }
+
+pub returns-in-Geoid : goal.returns-in-Geoid
+returns-in-Geoid c =
+    let code : SFits w64 c.args.place.code = search rules in
+    let w =
+    value_answered (place_says c.args.place) (of code).reads
+    ((widened (record { sfits = c.ms.type_inv })).reads ∙ c.ms.ensures)
+    ((widened (record { sfits = c.ms-2.type_inv })).reads ∙ c.ms-2.ensures)
+    (geoid_says c.in-Geoid.height) c.args.out.now c.answer.ensures c.in-Geoid.is refl
+    (c.put_geoid.ensures.result_value, c.put_geoid.ensures.out_after) in
+    record { result_value = w.0; out_after = w.1 }
+
+pub returns-in-Refused : goal.returns-in-Refused
+returns-in-Refused c =
+    let code : SFits w64 c.args.place.code = search rules in
+    let w =
+    point_refused (place_says c.args.place) (of code).reads
+    ((widened (record { sfits = c.ms.type_inv })).reads ∙ c.ms.ensures)
+    ((widened (record { sfits = c.ms-2.type_inv })).reads ∙ c.ms-2.ensures)
+    c.args.out.now c.answer.ensures c.in-Refused.is refl in
+    record { result_value = w.0; out_after = w.1 }
