@@ -72,6 +72,7 @@ enum PlaceAnswer {
 }
 
 // Reads a line, whatever its code and its place.
+#[tactic(auto, using(crate::proofs::Reading::wrong_length))]
 fn read(text: &[u8]) -> PlaceAnswer
     ensures { place_answer result ≡ point_said text.now }
 {
@@ -115,6 +116,7 @@ fn with_longitude(
 
 // Of a line whose latitude is refused, by the text of its longitude: the lower number of the two, since a wrong byte comes before
 // what is out of range. After a wrong byte the text is not read.
+#[tactic(auto, using(crate::proofs::Reading::kind_first))]
 fn first_refusal(latitude: Refusal, text: &[u8]) -> Refusal
     requires { length text.now ≡ 12 }
     ensures { number_of result ≡ first_refusal (number_of latitude) (read longitude text.now) }

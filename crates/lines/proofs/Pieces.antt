@@ -1,18 +1,17 @@
--- Bytes that are answered one part after the other are answered together, to the end of the input; and what a read gave. Assumes
+-- Bytes that are answered one part after the other are answered together, to the end of the input, and so they are written. Assumes
 -- nothing.
 use mathlib.Core.Path.{◌≡◌, refl, sym, ap, ◌∙◌, subst}
-use mathlib.Core.Bool.{true, false, false≢true}
 use mathlib.Core.List.{List, [], ◌∷◌, ◌++◌, flat_map, flatten, append-nil}
-use Prim.Native.Nat.{ℕ, ◌+◌, ◌-◌, ◌*◌, ◌<◌, ◌≤◌}
+use mathlib.Core.Logic.{◌⊎◌, inl, inr}
+use Prim.Native.Nat.{ℕ, zero, suc, ◌+◌, ◌-◌, ◌*◌, ◌<◌, ◌≤◌, min}
 use native.Mathlib.Omega.{arith}
-use lib.IntN.{ℤ, pos, negsuc}
 use lib.ListN.{length, take, drop, length-append, length-take, length-drop}
-use lib.Seq.{take_all, take_at, take-take, take-add}
-use lib.Signed.{lt_z}
-use Rattle.io.specs.Counts.{clamp_len}
-use Rattle.libc.specs.Io.{Moved}
+use lib.Seq.{take_all, take_at, drop_at, take-take, take-add}
+use Rattle.std.specs.Prelude.{Option, None, Some, IfSome}
+use Rattle.std.specs.Io.KnownBytes.{Appends, Consumes, IsAtEnd}
+use Rattle.std.proofs.KnownBytes.{Appends-nil, Appends-trans}
 use Rattle.line.specs.declared.Form.{Form}
-use Rattle.stream.specs.Stream.{head, foot, ended, begun_after, limit, output, held, kept, started, after, taken_of, answers, closing}
+use Rattle.stream.specs.Stream.{head, foot, printed, ended, begun_after, lines, limit, output, held, kept, started, after, taken_of, answers, closing}
 use Rattle.stream.specs.declared.Begun.{Begun}
 use Rattle.stream.specs.declared.Reading.{Reading}
 use Rattle.stream.proofs.Keeping.{held_kept, kept_cut}
@@ -20,7 +19,7 @@ use Rattle.stream.proofs.Printing.{answers_pieces, answers_short, answers_kept, 
 use Rattle.stream.proofs.Lines.{begun_pieces}
 use Rattle.stream.proofs.Feeding.{taken_within}
 use Rattle.stream.proofs.Demands.{in_pieces, takes_some, takes_within}
-use Rattle.lines.specs.Answered.{Answered}
+use Rattle.lines.specs.Answered.{Answered, answered_lines, WritesLines}
 
 -- ---- two lines that are kept alike go on alike
 module _ (l m : List ℕ) (e : kept l ≡ kept m) (bytes : List ℕ) where
@@ -35,19 +34,35 @@ pub none : (reading : Reading) → Answered reading [] reading 0
 unfolding begun_after answers ended flat_map
 none reading = record { form = refl; line = refl; left = omega arith; count = refl }
 
--- and more after them
-pub more : {before mid new : Reading} {xs ys : List ℕ} {m n : ℕ} → Answered before xs mid m → Answered mid ys new n → Answered before (xs ++ ys) new (m + n)
-more {before} {mid} {xs = xs} {ys = ys} a b =
+pub none_written : (form : Form) (begun : List ℕ) (a : Option (List ℕ)) → Appends a a (answers form begun [])
+unfolding answers ended flat_map
+none_written form begun a = Appends-nil a
+
+-- their answers, and those of more bytes after them
+pub together : {before mid : Reading} {xs : List ℕ} {m : ℕ} → Answered before xs mid m → (ys : List ℕ)
+    → answers before.form (held before.begun) xs ++ answers mid.form (held mid.begun) ys ≡ answers before.form (held before.begun) (xs ++ ys)
+together {before} {mid} {xs = xs} a ys =
     let form : Form = before.form in
     let begun : List ℕ = held before.begun in
     let same = ap (λ (f : Form). answers f (held mid.begun) ys) a.form ∙ same_answers (held mid.begun) (begun_after begun xs) a.line ys form in
+    ap (λ (l : List ℕ). answers form begun xs ++ l) same ∙ sym (answers_pieces form begun xs ys)
+
+-- so both are answered
+pub more : {before mid new : Reading} {xs ys : List ℕ} {m n : ℕ} → Answered before xs mid m → Answered mid ys new n → Answered before (xs ++ ys) new (m + n)
+more {before} {mid} {xs = xs} {ys = ys} a b =
+    let begun : List ℕ = held before.begun in
     record {
       form = b.form ∙ a.form;
       line = b.line ∙ same_line (held mid.begun) (begun_after begun xs) a.line ys ∙ ap kept (sym (begun_pieces begun xs ys));
       left = omega (arith, a.left, b.left, length-append xs ys);
       count =
-          omega (arith, a.count, b.count, ap length same, ap length (answers_pieces form begun xs ys), length-append (answers form begun xs) (answers form (begun_after begun xs) ys));
+          omega (arith, a.count, b.count, ap length (together a ys), length-append (answers before.form begun xs) (answers mid.form (held mid.begun) ys));
     }
+
+-- and what is written for the one and then for the other is what is written for both
+pub more_written : {before mid : Reading} {xs : List ℕ} {m : ℕ} → Answered before xs mid m → (ys : List ℕ) (a b c : Option (List ℕ))
+    → Appends a b (answers before.form (held before.begun) xs) → Appends b c (answers mid.form (held mid.begun) ys) → Appends a c (answers before.form (held before.begun) (xs ++ ys))
+more_written answered ys a b c one other = subst (Appends a c) (together answered ys) (Appends-trans a b c _ _ one other)
 
 -- so few are handed over for them that they can be counted
 pub few : {before new : Reading} {bytes : List ℕ} {n : ℕ} → Answered before bytes new n → before.left ≤ limit → n ≤ 48 * limit
@@ -112,14 +127,12 @@ module _ (piece : List ℕ) (from : ℕ) {before mid : Reading} {h : ℕ} (a : A
         let e : take from piece ++ take n rest ≡ take (from + n) piece = ap (λ (l : List ℕ). take from piece ++ take n l) rest_is ∙ sym (take-add from n piece) in
         subst (λ (l : List ℕ). Answered before l new (h + k)) e (more a part)
 
--- ---- what a read gave
-pub counted : (got : ℤ) (most count : ℕ) → Moved most got → lt_z got (pos 0) ≡ false → count ≡ clamp_len got most → got ≡ pos count
-counted (pos k) most count moved t is-count = let e : k ≡ count = omega (arith, moved, is-count) in ap pos e
-counted (negsuc k) most count moved t is-count = absurd (false≢true (sym t))
-
--- one that failed did not give nothing
-pub not_none : (got : ℤ) → lt_z got (pos 0) ≡ true → got ≡ pos 0 → ⊥
-not_none got t e = false≢true (subst (λ (z : ℤ). lt_z z (pos 0) ≡ true) e t)
+    pub onward_written : (o p q : Option (List ℕ)) → Appends o p (answers before.form (held before.begun) (take from piece))
+        → Appends p q (answers mid.form (held mid.begun) (take (from + n - from) (drop from piece))) → Appends o q (answers before.form (held before.begun) (take (from + n) piece))
+    onward_written o p q one other =
+        let n-is : from + n - from ≡ n = omega arith in
+        let e : take from piece ++ take (from + n - from) (drop from piece) ≡ take (from + n) piece = ap (λ (k : ℕ). take from piece ++ take k (drop from piece)) n-is ∙ sym (take-add from n piece) in
+        subst (λ (l : List ℕ). Appends o q (answers before.form (held before.begun) l)) e (more_written a _ o p q one other)
 
 -- ---- the end of the input
 -- the bytes that `finish` takes are those of a line feed
@@ -146,6 +159,26 @@ ends_kept form l = answers_kept form l (closing (held (kept l))) ∙ ap (λ (m :
     cut (x ∷ l) = refl
 
 -- ---- the output of an input that was answered
+cancel : (head foot : List ℕ) {l m : List ℕ} → head ++ l ++ foot ≡ head ++ m ++ foot → l ≡ m
+cancel head foot {l} {m} e =
+    let long : length (head ++ l) ≡ length (head ++ m) = omega (arith, ap length e, length-append (head ++ l) foot, length-append (head ++ m) foot) in
+    let front : head ++ l ≡ head ++ m = sym (take_at (head ++ l) foot _ long) ∙ ap (take (length (head ++ m))) e ∙ take_at (head ++ m) foot _ refl in
+    sym (drop_at head l _ refl) ∙ ap (drop (length head)) front ∙ drop_at head m _ refl
+
+-- of a reader's bytes, where they are known, those that were read are all up to the limit
+all_read : (a b : Option (List ℕ)) (input : List ℕ) → length input ≤ limit → Consumes a b input → (length input ≡ limit) ⊎ IsAtEnd b
+    → (P : List ℕ → Type 0) → P (take limit input) → IfSome a (λ bytes. P (take limit bytes))
+all_read None b input most reads ended P h = tt
+all_read (Some bytes) None input most reads ended P h = absurd reads
+all_read (Some bytes) (Some more) input most reads (inl long) P h = subst P (take_all limit input most ∙ sym (ap (take limit) reads ∙ take_at input more limit long)) h
+all_read (Some bytes) (Some more) input most reads (inr end) P h = subst P (ap (take limit) (sym (reads ∙ ap (λ (l : List ℕ). input ++ l) end ∙ append-nil input))) h
+
+-- where the lesser of two is none, one is
+pub none_of : (count left : ℕ) → min count left ≡ 0 → (left ≡ 0) ⊎ (count ≡ 0)
+none_of zero left e = inr refl
+none_of (suc count) zero e = inl refl
+none_of (suc count) (suc left) e = absurd (omega arith)
+
 module _ (form : Form) {reading : Reading} {handed : ℕ} (input : List ℕ) (a : Answered (started form) input reading handed) where
   abbrev begun : List ℕ
   begun = held (kept [])
@@ -176,3 +209,15 @@ module _ (form : Form) {reading : Reading} {handed : ℕ} (input : List ℕ) (a 
         length-append (head form) (answers form begun input ++ answers form line (closing line)),
         length-append (answers form begun input) (answers form line (closing line)),
       )
+
+  -- and what was written for it and for the last line is what stands between these
+  lines_are : answers form begun input ++ answers form line (closing line) ≡ answered_lines form input
+  lines_are = cancel (head form) (foot form) (sym output_is)
+
+  pub lines_written : (given rest : Option (List ℕ)) → Consumes given rest input → (reading.left ≡ 0) ⊎ IsAtEnd rest → (o p q : Option (List ℕ))
+      → Appends o p (answers form begun input) → Appends p q (answers reading.form line (closing line)) → WritesLines form given o q
+  lines_written given rest reads ended o p q one other =
+      let last = subst (λ (f : Form). Appends p q (answers f line (closing line))) a.form other in
+      let all : Appends o q (answered_lines form input) = subst (Appends o q) lines_are (Appends-trans o p q _ _ one last) in
+      let at-end : (length input ≡ limit) ⊎ IsAtEnd rest = elim ended [ inl none ↦ inl (omega (arith, a.left)) | inr end ↦ inr end ] in
+      all_read given rest input (omega (arith, a.left)) reads at-end (λ (l : List ℕ). Appends o q (flat_map (printed form) (lines l))) all

@@ -1,13 +1,13 @@
 -- How long an output is, and what the arguments ask for. Assumes nothing.
 use mathlib.Core.Path.{◌≡◌, refl, sym, ap, ◌∙◌}
-use mathlib.Core.Bool.{Bool, true, false, ◌&&◌, cond, false≢true}
+use mathlib.Core.Bool.{Bool, ◌&&◌, cond}
 use mathlib.Core.List.{List, [], ◌∷◌, ◌++◌, flat_map}
 use Prim.Native.Nat.{ℕ, ◌+◌, ◌*◌, ◌<◌, ◌≤◌}
 use native.Mathlib.Omega.{arith}
 use lib.Dec.{eqb}
 use lib.ListN.{length, take, length-append, length-take}
-use borrow.Author.Tests.{eqb-true, lt-ltb, le-ltb, eq-eqb}
-use Rattle.whole.proofs.Bools.{both, joined, by_test}
+use lib.Pointwise.{pointwise}
+use borrow.Author.Tests.{lt-ltb, le-ltb}
 use Rattle.kinds.specs.Bytes.{ascii}
 use Rattle.line.specs.declared.Form.{Form}
 use Rattle.line.specs.declared.Form.TheVariants.{Numbers, Waypoints}
@@ -59,25 +59,16 @@ output_short form input =
     )
 
 -- ---- two words
-same : (a b : List ℕ) → is_same a b ≡ true → a ≡ b
-same [] [] h = refl
-same [] (y ∷ ys) h = absurd (false≢true h)
-same (x ∷ xs) [] h = absurd (false≢true h)
-same (x ∷ xs) (y ∷ ys) h = let p = both (eqb x y) (is_same xs ys) h in λ i. eqb-true x y p.0 i ∷ same xs ys p.1 i
-
-itself : (a : List ℕ) → is_same a a ≡ true
-itself [] = refl
-itself (x ∷ xs) = joined (eq-eqb x x refl) (itself xs)
-
--- a test by which they are the same, and are not where it does not hold
-as_tested : (a b : List ℕ) (t : Bool) → (t ≡ true → a ≡ b) × (a ≡ b → t ≡ true) → is_same a b ≡ t
-as_tested a b true h = ap (is_same a) (sym (h.0 refl)) ∙ itself a
-as_tested a b false h = by_test (is_same a b) (λ t. absurd (false≢true (h.1 (same a b t)))) (λ t. t)
+as_compared : (a b : List ℕ) → is_same a b ≡ pointwise eqb a b
+as_compared [] [] = refl
+as_compared [] (y ∷ ys) = refl
+as_compared (x ∷ xs) [] = refl
+as_compared (x ∷ xs) (y ∷ ys) = ap (λ (t : Bool). eqb x y && t) (as_compared xs ys)
 
 -- ---- what is asked for
 module _ (words : ℕ) (next : List ℕ) where
   pub none_asked : words < 2 → Answers Numbers ≡ asked words next
   none_asked h = simp (lt-ltb words 2 h)
 
-  pub word_asked : 2 ≤ words → {same : Bool} → (same ≡ true → next ≡ ascii "--gpx") × (next ≡ ascii "--gpx" → same ≡ true) → cond (eqb words 2 && same) (Answers Waypoints) Unknown ≡ asked words next
-  word_asked h {same} tells = simp (le-ltb words 2 h, as_tested next (ascii "--gpx") same tells)
+  pub word_asked : 2 ≤ words → {same : Bool} → same ≡ pointwise eqb next (ascii "--gpx") → cond (eqb words 2 && same) (Answers Waypoints) Unknown ≡ asked words next
+  word_asked h is-same = simp (le-ltb words 2 h, as_compared next (ascii "--gpx"), is-same)

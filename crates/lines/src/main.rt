@@ -1,59 +1,82 @@
 // The line program: answers each line of standard input on standard output, with numbers or, where it is called with `--gpx`, in a
 // GPX file of waypoints. Where reading fails, or writing does and no signal has ended it, it says so on standard error and stops;
-// where the limit ended the input, it says so there too. No contract says which bytes are read and written: those here say what
-// becomes of the bytes that stand in a buffer after a read, and how many bytes are handed over to be written for them.
-ghost use Rattle.std.specs.Prelude.{◌≡◌, true, false, ◌+◌, ◌<◌, ◌≤◌, pos, length, take};
-ghost use Rattle.libc.specs.Io.{Moved};
+// where the limit ended the input, it says so there too. No contract says which bytes a descriptor gives and takes: those here say
+// what becomes of the bytes that stand in a buffer after a read, and how many bytes are handed over to be written for them; and of a
+// reader and a writer whose bytes are known, which bytes are read and written.
+#![tactic(auto)]
+
+ghost use Rattle.std.specs.Prelude.{◌≡◌, ◌+◌, ◌<◌, ◌≤◌, length, take, Ok, IsOk, IfOk, OnOk};
+ghost use Rattle.std.specs.Io.KnownBytes.{Appends, Consumes, IsAtEnd};
 ghost use Rattle.stream.specs.Stream.{head, foot, limit, held, answers, closing};
 ghost use Rattle.lines.specs.Asked.{asked};
 ghost use Rattle.lines.specs.Edges.{edge_text};
-ghost use Rattle.lines.specs.Answered.{Answered, Ended};
+ghost use Rattle.lines.specs.Answered.{Answered, Ended, WritesLines, WritesOutput};
 
-use libc::{STDERR_FILENO, STDIN_FILENO, STDOUT_FILENO};
 use line::Form;
+use std::env::{Env, FillError};
+use std::io::{Read, Write};
+use std::{fmt, io};
 use stream::Reading;
 use whole::least;
 
 // What the program is asked for: answers in a form, or what it does not know.
-#[derive(Drop)]
+#[derive(Clone, Copy)]
 enum Request {
     Answers(Form),
     Unknown,
 }
 
 // Where in an output a text stands that tells of no line: before the first, or after the last.
-#[derive(Drop)]
+#[derive(Clone, Copy)]
 enum Edge {
     Head,
     Foot,
 }
 
-// The reading after some bytes, how many these are, how many were handed over for them, and whether to stop at once.
-#[derive(Drop)]
+// The reading after some bytes, how many these are, and how many were handed over for them.
+#[derive(Clone, Copy)]
 struct Turn {
     reading: Reading,
     count: usize,
     handed: usize,
-    is_failed: bool,
 }
 
-// How many bytes were handed over to be written, and whether all were.
-#[derive(Drop)]
-struct Handed {
-    bytes: usize,
-    is_written: bool,
+// Why the program stops before the input ends.
+#[derive(Clone, Copy)]
+enum Failure {
+    Unread,
+    Unwritten,
 }
 
-fn main() {
-    // a longer word is no `--gpx`, and comes as an empty one
-    let mut word = [0; 5];
-    let count = os::arg(1, &mut word);
-    match asked(os::arg_count(), &word[..count]) {
-        Request::Answers(form) => in_form(form),
-        Request::Unknown => {
-            io::write_all(STDERR_FILENO, b"lines: it takes no argument but --gpx\n");
+impl fmt::Display for Failure {
+    fn fmt<W: fmt::Write>(&self, f: &mut fmt::Formatter<W>) -> fmt::Result {
+        match self {
+            Failure::Unread => write!(f, "lines: standard input could not be read"),
+            Failure::Unwritten => write!(f, "lines: standard output could not be written"),
         }
     }
+}
+
+fn main(rt: HostRuntime) {
+    // a longer word is no `--gpx`, and comes as an empty one
+    let mut word = [0; 5];
+    let count = rt.arg(1, &mut word).unwrap_or(0);
+    match asked(word_count(&rt), &word[..count]) {
+        Request::Answers(form) => in_form(&rt, form, &mut rt.stdin(), &mut rt.stdout()),
+        Request::Unknown => {
+            let _ = eprintln!(rt; "lines: it takes no argument but --gpx");
+        }
+    }
+}
+
+// How many words the program is called with, its name among them.
+fn word_count<E: Env>(rt: &E) -> usize {
+    for i in 0..usize::MAX {
+        if let Err(FillError::NotPresent) = rt.arg(i, &mut []) {
+            return i;
+        }
+    }
+    usize::MAX
 }
 
 // What so many words ask for, the program's name among them, by the one after the name.
@@ -63,155 +86,184 @@ fn asked(words: usize, next: &[u8]) -> Request
     if words < 2 {
         return Request::Answers(Form::Numbers);
     }
-    if (words == 2) & check::same(next, b"--gpx") {
+    if (words == 2) & (next == b"--gpx".as_slice()) {
         return Request::Answers(Form::Waypoints);
     }
     Request::Unknown
 }
 
-fn in_form(form: Form) {
+fn in_form<E: Eprint, R: Read, W: Write>(rt: &E, form: Form, reader: &mut R, writer: &mut W) {
     let mut input = [0; 65_536];
     // room for the answers of 2,428 lines, the most of 26 bytes that end in what is read at a time: 48 bytes for each
     let mut output = [0; 116_544];
-    let last = run(form, &mut input, &mut output);
-    tell(form, last);
+    match run(form, reader, writer, &mut input, &mut output) {
+        Ok(last) => tell(rt, form, last),
+        Err(failure) => {
+            let _ = eprintln!(rt; "{failure}");
+        }
+    }
 }
 
 // Says where nothing more may be taken, of a run that has ended. Whether bytes follow is not known, since to know it one of them
 // would have to be read.
-fn tell(form: Form, last: Turn)
-    requires { last.is_failed ≡ false → Ended form last last.handed }
+fn tell<E: Eprint>(rt: &E, form: Form, last: Turn)
+    requires { Ended form last last.handed }
 {
     let reading = last.reading;
-    if !last.is_failed && reading.left() == 0 {
-        io::write_all(
-            STDERR_FILENO,
-            b"lines: 100,000,000 bytes were read, which is the most; any bytes that follow are not answered\n",
+    if reading.left() == 0 {
+        let _ = eprintln!(rt;
+            "lines: 100,000,000 bytes were read, which is the most; any bytes that follow are not answered"
         );
     }
 }
 
 // Hands over the head, the answers and the foot. The answer counts the bytes of the last read, and those that were handed over in
 // all.
-fn run(form: Form, input: &mut [u8], output: &mut [u8]) -> Turn
+fn run<R: Read, W: Write>(
+    form: Form,
+    reader: &mut R,
+    writer: &mut W,
+    input: &mut [u8],
+    output: &mut [u8],
+) -> Result<Turn, Failure>
     requires { (0 < length input.old) × (48 ≤ length output.old) }
-    ensures { result.is_failed ≡ false → Ended form result result.handed }
+    ensures ended { IfOk result (λ last. Ended form last last.handed) }
+    ensures written { OnOk result (WritesOutput form (R.remaining reader.old) (W.contents writer.old) (W.contents writer.new)) }
 {
-    let before = at_edge(Edge::Head, form);
-    if !before.is_written {
-        return Turn {
-            reading: Reading::start(form),
-            count: 0,
-            handed: 0,
-            is_failed: true,
-        };
-    }
-    let last = read_all(form, input, output);
-    if last.is_failed {
-        return last;
-    }
-    let reading = last.reading;
-    let after = at_edge(Edge::Foot, form);
-    let handed = before.bytes + last.handed + after.bytes;
-    Turn {
-        reading,
+    let before = at_edge(writer, Edge::Head, form)?;
+    let last = read_all(form, reader, writer, input, output)?;
+    let after = at_edge(writer, Edge::Foot, form)?;
+    let handed = before + last.handed + after;
+    Ok(Turn {
+        reading: last.reading,
         count: last.count,
         handed,
-        is_failed: !after.is_written,
-    }
+    })
 }
 
 // Hands over what stands at an edge of an output.
-fn at_edge(edge: Edge, form: Form) -> Handed
-    ensures { result.bytes ≡ length (edge_text edge form) }
+fn at_edge<W: Write>(writer: &mut W, edge: Edge, form: Form) -> Result<usize, Failure>
+    ensures value { IfOk result (λ bytes. bytes ≡ length (edge_text edge form)) }
+    ensures written { OnOk result (Appends (W.contents writer.old) (W.contents writer.new) (edge_text edge form)) }
 {
     match form {
-        Form::Numbers => write_edge(edge, form, b""),
+        Form::Numbers => write_edge(writer, edge, form, b""),
         Form::Waypoints => match edge {
             Edge::Head => write_edge(
+                writer,
                 edge,
                 form,
                 b"<?xml version=\"1.0\" encoding=\"UTF-8\"?>\n<gpx version=\"1.1\" creator=\"Buckettin\" xmlns=\"http://www.topografix.com/GPX/1/1\">\n",
             ),
-            Edge::Foot => write_edge(edge, form, b"</gpx>\n"),
+            Edge::Foot => write_edge(writer, edge, form, b"</gpx>\n"),
         },
     }
 }
 
-fn write_edge(edge: Edge, form: Form, text: &[u8]) -> Handed
+fn write_edge<W: Write>(
+    writer: &mut W,
+    edge: Edge,
+    form: Form,
+    text: &[u8],
+) -> Result<usize, Failure>
     requires { text.now ≡ edge_text edge form }
-    ensures { result.bytes ≡ length (edge_text edge form) }
+    ensures value { IfOk result (λ bytes. bytes ≡ length (edge_text edge form)) }
+    ensures written { OnOk result (Appends (W.contents writer.old) (W.contents writer.new) (edge_text edge form)) }
 {
-    handed_over(text)
+    handed_over(writer, text)
 }
 
 // Reads and answers until no byte comes or none may be taken any more. The answer counts the bytes of the last read, and those that
 // were handed over for all: with the head and the foot these are the output's.
-fn read_all(form: Form, input: &mut [u8], output: &mut [u8]) -> Turn
+fn read_all<R: Read, W: Write>(
+    form: Form,
+    reader: &mut R,
+    writer: &mut W,
+    input: &mut [u8],
+    output: &mut [u8],
+) -> Result<Turn, Failure>
     requires { (0 < length input.old) × (48 ≤ length output.old) }
-    ensures { result.is_failed ≡ false → Ended form result (length (head form) + result.handed + length (foot form)) }
+    ensures ended { IfOk result (λ last. Ended form last (length (head form) + last.handed + length (foot form))) }
+    ensures written { OnOk result (WritesLines form (R.remaining reader.old) (W.contents writer.old) (W.contents writer.new)) }
 {
     let mut reading = Reading::start(form);
     let mut handed = 0;
     loop {
-        let turn = read(reading, input, output);
-        if turn.is_failed {
-            return turn;
-        }
+        let turn = read(reading, reader, writer, input, output)?;
         reading = turn.reading;
         handed += turn.handed;
         let count = turn.count;
         if least(count, reading.left()) == 0 {
-            let last = end(reading, output);
-            return Turn {
+            let last = end(reading, writer, output)?;
+            return Ok(Turn {
                 reading,
                 count,
-                handed: handed + last.bytes,
-                is_failed: !last.is_written,
-            };
+                handed: handed + last,
+            });
         }
     }
 }
 
 // Reads once, at most so many bytes as may be taken, and answers the lines that end in them.
-fn read(reading: Reading, input: &mut [u8], output: &mut [u8]) -> Turn
+fn read<R: Read, W: Write>(
+    reading: Reading,
+    reader: &mut R,
+    writer: &mut W,
+    input: &mut [u8],
+    output: &mut [u8],
+) -> Result<Turn, Failure>
     requires input_nonzero { (0 < length input.old) × (48 ≤ length output.old) }
     requires left_nonzero { (0 < reading.left) × (reading.left ≤ limit) }
-    ensures { result.is_failed ≡ false → (result.count ≤ length input.new) × Answered reading (take result.count input.new) result.reading result.handed }
+    ensures answered { IfOk result (λ turn. (turn.count ≤ length input.new)
+        × Answered reading (take turn.count input.new) turn.reading turn.handed) }
+    ensures consumed { IfOk result (λ turn. Consumes (R.remaining reader.old) (R.remaining reader.new) (take turn.count input.new)) }
+    ensures end { IfOk result (λ turn. turn.count ≡ 0 → IsAtEnd (R.remaining reader.new)) }
+    ensures written { IfOk result (λ turn. Appends (W.contents writer.old) (W.contents writer.new)
+        (answers reading.form (held reading.begun) (take turn.count input.new))) }
 {
     let most = least(reading.left(), input.len());
-    let got = libc::read(STDIN_FILENO, &mut input[..most]);
-    turned(got, reading, &input[..most], output)
+    let got = reader.read(&mut input[..most]);
+    turned(got, reading, writer, &input[..most], output)
 }
 
 // What becomes of a read into a piece that is not empty: the bytes that it gave are answered, unless it failed. To give none, at
 // the end of the input, is no failure.
-fn turned(got: isize, reading: Reading, piece: &[u8], output: &mut [u8]) -> Turn
+fn turned<W: Write>(
+    got: io::Result<usize>,
+    reading: Reading,
+    writer: &mut W,
+    piece: &[u8],
+    output: &mut [u8],
+) -> Result<Turn, Failure>
     requires piece_nonzero { (0 < length piece.now) × (48 ≤ length output.old) }
     requires piece_len_bound { (length piece.now ≤ reading.left) × (reading.left ≤ limit) }
-    requires moved { Moved (length piece.now) got }
-    ensures is_failed_value { got ≡ pos 0 → result.is_failed ≡ false }
-    ensures got_value { result.is_failed ≡ false → (got ≡ pos result.count) × Answered reading (take result.count piece.now) result.reading result.handed }
+    requires moved { IfOk got (λ count. count ≤ length piece.now) }
+    ensures no_bytes { got ≡ Ok 0 → IsOk result }
+    ensures answered { IfOk result (λ turn. (got ≡ Ok turn.count)
+        × Answered reading (take turn.count piece.now) turn.reading turn.handed) }
+    ensures written { IfOk result (λ turn. Appends (W.contents writer.old) (W.contents writer.new)
+        (answers reading.form (held reading.begun) (take turn.count piece.now))) }
 {
-    if got < 0 {
-        io::write_all(STDERR_FILENO, b"lines: standard input could not be read\n");
-        return Turn {
-            reading,
-            count: 0,
-            handed: 0,
-            is_failed: true,
-        };
+    match got {
+        Ok(count) => answer(reading, writer, &piece[..count], output),
+        Err(_) => Err(Failure::Unread),
     }
-    let count = io::count(got, piece);
-    answer(reading, &piece[..count], output)
 }
 
 // Answers the lines that end in a piece of the input, as much of it at a time as the output has room for.
-fn answer(reading: Reading, piece: &[u8], output: &mut [u8]) -> Turn
+fn answer<W: Write>(
+    reading: Reading,
+    writer: &mut W,
+    piece: &[u8],
+    output: &mut [u8],
+) -> Result<Turn, Failure>
     requires in_bounds { 48 ≤ length output.old }
     requires piece_len_bound { (length piece.now ≤ reading.left) × (reading.left ≤ limit) }
-    ensures is_failed_value { length piece.now ≡ 0 → result.is_failed ≡ false }
-    ensures count_value { result.is_failed ≡ false → (result.count ≡ length piece.now) × Answered reading piece.now result.reading result.handed }
+    ensures no_bytes { length piece.now ≡ 0 → IsOk result }
+    ensures answered { IfOk result (λ turn. (turn.count ≡ length piece.now)
+        × Answered reading piece.now turn.reading turn.handed) }
+    ensures written { OnOk result (Appends (W.contents writer.old) (W.contents writer.new)
+        (answers reading.form (held reading.begun) piece.now)) }
 {
     let mut next = reading;
     let mut from = 0;
@@ -220,62 +272,56 @@ fn answer(reading: Reading, piece: &[u8], output: &mut [u8]) -> Turn
         let fed = stream::feed(next, &piece[from..], output);
         let put = fed.put;
         let to = from + fed.taken;
-        let written = write(next, &piece[from..to], &output[..put]);
-        if !written.is_written {
-            return Turn {
-                reading: next,
-                count: from,
-                handed,
-                is_failed: true,
-            };
-        }
-        handed += written.bytes;
+        handed += write(next, writer, &piece[from..to], &output[..put])?;
         next = fed.reading;
         from = to;
     }
-    Turn {
+    let turn = Turn {
         reading: next,
         count: from,
         handed,
-        is_failed: false,
-    }
+    };
+    Ok(turn)
 }
 
 // Ends the input: answers a last line with bytes but no line feed.
-fn end(reading: Reading, output: &mut [u8]) -> Handed
+fn end<W: Write>(reading: Reading, writer: &mut W, output: &mut [u8]) -> Result<usize, Failure>
     requires { 48 ≤ length output.old }
-    ensures bytes_in_bounds { result.bytes ≤ length output.new }
-    ensures bytes_value { result.is_written ≡ true → result.bytes ≡ length (answers reading.form (held reading.begun) (closing (held reading.begun))) }
+    ensures in_bounds { IfOk result (λ bytes. bytes ≤ length output.new) }
+    ensures value { IfOk result (λ bytes. bytes ≡ length (answers reading.form (held reading.begun) (closing (held reading.begun)))) }
+    ensures written { OnOk result (Appends (W.contents writer.old) (W.contents writer.new)
+        (answers reading.form (held reading.begun) (closing (held reading.begun)))) }
 {
     let line_feed = [b'\n'];
     let fed = stream::finish(reading, output);
     let taken = fed.taken;
     let put = fed.put;
-    write(reading, &line_feed[..taken], &output[..put])
+    write(reading, writer, &line_feed[..taken], &output[..put])
 }
 
 // Hands over the answers of the lines that end in some bytes, all of them and from the start.
-fn write(reading: Reading, bytes: &[u8], put: &[u8]) -> Handed
+fn write<W: Write>(
+    reading: Reading,
+    writer: &mut W,
+    bytes: &[u8],
+    put: &[u8],
+) -> Result<usize, Failure>
     requires { put.now ≡ answers reading.form (held reading.begun) bytes.now }
-    ensures bytes_in_bounds { result.bytes ≤ length put.now }
-    ensures bytes_value { result.is_written ≡ true → result.bytes ≡ length (answers reading.form (held reading.begun) bytes.now) }
+    ensures in_bounds { IfOk result (λ count. count ≤ length put.now) }
+    ensures value { IfOk result (λ count. count ≡ length (answers reading.form (held reading.begun) bytes.now)) }
+    ensures written { OnOk result (Appends (W.contents writer.old) (W.contents writer.new)
+        (answers reading.form (held reading.begun) bytes.now)) }
 {
-    handed_over(put)
+    handed_over(writer, put)
 }
 
 // By itself, so that no other bytes are at hand here.
-fn handed_over(put: &[u8]) -> Handed
-    ensures { result.bytes ≡ length put.now }
+fn handed_over<W: Write>(writer: &mut W, put: &[u8]) -> Result<usize, Failure>
+    ensures value { IfOk result (λ count. count ≡ length put.now) }
+    ensures written { OnOk result (Appends (W.contents writer.old) (W.contents writer.new) put.now) }
 {
-    let is_written = io::write_all(STDOUT_FILENO, put);
-    if !is_written {
-        io::write_all(
-            STDERR_FILENO,
-            b"lines: standard output could not be written\n",
-        );
+    if writer.write_all(put).is_err() {
+        return Err(Failure::Unwritten);
     }
-    Handed {
-        bytes: put.len(),
-        is_written,
-    }
+    Ok(put.len())
 }

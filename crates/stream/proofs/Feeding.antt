@@ -10,29 +10,29 @@ use lib.ListN.{length, take, drop, get_or, length-append, length-take, length-dr
 use lib.Seq.{length-take-le, take-take, drop-drop, take-add, take-suc, get_or-take, get_or-drop}
 use borrow.Author.Tests.{eqb-true}
 use borrow.Rule.Slice.PartMut.{put_mid}
-use Rattle.bytes.specs.Bytes.{slice, index_of, index_after}
 use Rattle.whole.proofs.Bools.{by_test}
 use Rattle.kinds.specs.Bytes.{part}
 use Rattle.kinds.proofs.Writing.{grown}
 use Rattle.line.specs.Line.{line_feed, unbroken}
 use Rattle.line.specs.declared.Form.{Form}
-use Rattle.stream.specs.Inside.{FirstFeed, end_for}
+use Rattle.stream.specs.Inside.{index_of, FirstFeed, end_for}
 use Rattle.stream.specs.Stream.{printed, ended, begun_after, held, kept, after, at_end, of_lines, taken_of, answers, closing}
 use Rattle.stream.specs.declared.Begun.{Begun}
 use Rattle.stream.specs.declared.Reading.{Reading}
 use Rattle.stream.specs.declared.Fed.{Fed}
 use Rattle.stream.proofs.Lines.{begun_pieces, goes_on, begins_anew}
 use Rattle.stream.proofs.Keeping.{take_min}
+use Rattle.stream.proofs.Finding.{first_left}
 use Rattle.stream.proofs.Printing.{printed_short, answers_pieces, answers_none, answers_line}
 
 -- ---- the next line feed
 before_feed : (xs : List ℕ) → unbroken (take (index_of line_feed xs) xs) ≡ true
-unfolding index_of index_after
+unfolding index_of
 before_feed [] = refl
 before_feed (x ∷ xs) = by_test (eqb x line_feed) (λ t. simp t) (λ t. simp t (before_feed xs))
 
 at_feed : (xs : List ℕ) → index_of line_feed xs < length xs → get_or xs (index_of line_feed xs) 0 ≡ line_feed
-unfolding index_of index_after
+unfolding index_of
 at_feed [] h = absurd (omega arith)
 at_feed (x ∷ xs) h =
     by_test (eqb x line_feed)
@@ -63,7 +63,7 @@ no_more left bytes room = omega (arith, taken_within (take left bytes) room, len
 
 -- up to the first line feed, and then for one line less
 line_taken : (k : ℕ) (xs : List ℕ) → index_of line_feed xs < length xs → of_lines (suc k) xs ≡ suc (index_of line_feed xs) + of_lines k (drop (suc (index_of line_feed xs)) xs)
-unfolding of_lines index_of index_after
+unfolding of_lines index_of
 line_taken k [] h = absurd (omega arith)
 line_taken k (x ∷ xs) h =
     by_test (eqb x line_feed)
@@ -72,7 +72,7 @@ line_taken k (x ∷ xs) h =
 
 -- all where there is none
 all_taken : (k : ℕ) (xs : List ℕ) → length xs ≤ index_of line_feed xs → of_lines (suc k) xs ≡ length xs
-unfolding of_lines index_of index_after
+unfolding of_lines index_of
 all_taken k [] h = refl
 all_taken k (x ∷ xs) h =
     by_test (eqb x line_feed)
@@ -113,14 +113,6 @@ start form bytes begun out₀ {most} enough is-lines =
     }
 
 -- ---- where the bytes end that may be taken
-pub ends_here : (lines from most : ℕ) → lines ≡ 0 → from ≡ end_for lines from most
-ends_here zero from most e = refl
-ends_here (suc lines) from most e = absurd (omega arith)
-
-pub ends_there : (lines from most : ℕ) → (lines ≡ 0 → ⊥) → most ≡ end_for lines from most
-ends_there zero from most h = absurd (h refl)
-ends_there (suc lines) from most h = refl
-
 ends_within : (lines from most : ℕ) → from ≤ most → {to : ℕ} → to ≡ end_for lines from most → (from ≤ to) × (to ≤ most)
 ends_within zero from most h e = (omega arith, omega arith)
 ends_within (suc lines) from most h e = (omega arith, omega arith)
@@ -133,13 +125,14 @@ one_more (suc lines) from most e h k = (omega arith, e)
 -- where none does, no more are taken
 stops : (lines from most : ℕ) (bytes : List ℕ) {to end : ℕ} → from ≤ most → most ≤ length bytes → to ≡ end_for lines from most → FirstFeed from to bytes end → to ≤ end
     → to ≡ from + of_lines lines (drop from (take most bytes))
-unfolding slice of_lines
+unfolding of_lines
 stops zero from most bytes h k e first last = omega arith
 stops (suc lines) from most bytes {to} {end} h k e first last =
     let f : FirstFeed from most bytes end = subst (λ (t : ℕ). FirstFeed from t bytes end) e first in
+    let g : end ≡ from + index_of line_feed (drop from (take most bytes)) = first_left line_feed bytes h f in
     let l = length-drop from (take most bytes) in
     let m = length-take most bytes in
-    omega (arith, e, l, m, all_taken lines (drop from (take most bytes)) (omega (arith, f.0, l, m, last, e)))
+    omega (arith, e, l, m, all_taken lines (drop from (take most bytes)) (omega (arith, g, l, m, last, e)))
 
 -- the bytes from a place up to another
 abbrev between : ℕ → ℕ → List ℕ → List ℕ
@@ -157,13 +150,15 @@ module _ {form : Form} {bytes begun out₀ : List ℕ} {most : ℕ} {out line : 
 
   -- the next line feed is at `end`, or none is and `end` is `taken`
   module _ {taken end : ℕ} (is-taken : taken ≡ end_for lines from most) (first : FirstFeed from taken bytes end) where
+    end_is : end ≡ from + index_of line_feed (drop from (take taken bytes))
+    end_is = first_left line_feed bytes (to_within is-taken).0 first
+
     no_feed : unbroken (between from end bytes) ≡ true
-    unfolding slice
     no_feed =
         let n : ℕ = index_of line_feed (drop from (take taken bytes)) in
-        let e : end - from ≡ n = omega (arith, first.0) in
+        let e : end - from ≡ n = omega (arith, end_is) in
         ap (λ (n : ℕ). unbroken (part from n bytes)) e
-        ∙ ap unbroken (sym (part_of from taken n bytes (omega (arith, first.0, first.1))))
+        ∙ ap unbroken (sym (part_of from taken n bytes (omega (arith, end_is, first.1))))
         ∙ before_feed (drop from (take taken bytes))
 
     up_to_end : take end bytes ≡ take from bytes ++ between from end bytes
@@ -172,14 +167,13 @@ module _ {form : Form} {bytes begun out₀ : List ℕ} {most : ℕ} {out line : 
     -- ---- a line ends
     module _ (more : end < taken) where
       feed_there : get_or bytes end 0 ≡ line_feed
-      unfolding slice
       feed_there =
           let xs : List ℕ = drop from (take taken bytes) in
           let n : ℕ = index_of line_feed xs in
-          ap (λ (n : ℕ). get_or bytes n 0) first.0
-          ∙ sym (get_or-take taken bytes (from + n) 0 (omega (arith, first.0)))
+          ap (λ (n : ℕ). get_or bytes n 0) end_is
+          ∙ sym (get_or-take taken bytes (from + n) 0 (omega (arith, end_is)))
           ∙ sym (get_or-drop from (take taken bytes) n 0)
-          ∙ at_feed xs (omega (arith, first.0, length-drop from (take taken bytes), length-take taken bytes, (to_within is-taken).1.1))
+          ∙ at_feed xs (omega (arith, end_is, length-drop from (take taken bytes), length-take taken bytes, (to_within is-taken).1.1))
 
       past_end : take (end + 1) bytes ≡ take from bytes ++ (between from end bytes ++ line_feed ∷ [])
       past_end =
@@ -214,22 +208,19 @@ module _ {form : Form} {bytes begun out₀ : List ℕ} {most : ℕ} {out line : 
       room = omega (arith, printed_short form (line ++ between from end bytes), good.room, some_left.0)
 
       taken_next : taken_of (take most bytes) (length out₀) ≡ end + 1 + of_lines (lines - 1) (drop (end + 1) (take most bytes))
-      unfolding slice
       taken_next =
           let xs : List ℕ = drop from (take most bytes) in
           let f : FirstFeed from most bytes end = subst (λ (t : ℕ). FirstFeed from t bytes end) some_left.1 first in
           let n : ℕ = index_of line_feed xs in
+          let g : end ≡ from + n = first_left line_feed bytes good.within f in
           let k : lines ≡ suc (lines - 1) = omega (arith, some_left.0) in
-          let e : from + suc n ≡ end + 1 = omega (arith, f.0) in
-          let less : n < length xs = omega (arith, f.0, more, some_left.1, length-drop from (take most bytes), length-take most bytes, good.enough) in
+          let e : from + suc n ≡ end + 1 = omega (arith, g) in
+          let less : n < length xs = omega (arith, g, more, some_left.1, length-drop from (take most bytes), length-take most bytes, good.enough) in
           let next : drop (suc n) xs ≡ drop (end + 1) (take most bytes) = drop-drop (suc n) from (take most bytes) ∙ ap (λ (j : ℕ). drop j (take most bytes)) e in
-          omega (arith, good.taken_is, ap (λ (j : ℕ). of_lines j xs) k, line_taken (lines - 1) xs less, ap (of_lines (lines - 1)) next, f.0)
+          omega (arith, good.taken_is, ap (λ (j : ℕ). of_lines j xs) k, line_taken (lines - 1) xs less, ap (of_lines (lines - 1)) next, g)
 
       pub lent_room : length (printed form (line ++ between from end bytes)) ≤ length (take (length out - put) (drop put out))
       lent_room = omega (arith, room, long, length-take (length out - put) (drop put out), length-drop put out)
-
-      pub sum_fits : {r : ℕ} → r ≡ length (printed form (line ++ between from end bytes)) → put + r ≤ length out₀
-      sum_fits h = omega (arith, room)
 
       pub turn : (r : ℕ) (new : List ℕ) → r ≡ length (printed form (line ++ between from end bytes))
           → new ≡ printed form (line ++ between from end bytes) ++ drop r (take (length out - put) (drop put out))

@@ -1,10 +1,10 @@
 -- What is kept of a line that is begun: its first 27 bytes, and what they are once more bytes have come. Assumes nothing.
 use mathlib.Core.Path.{◌≡◌, refl, sym, ap, ◌∙◌, subst}
-use mathlib.Core.List.{List, [], ◌∷◌, ◌++◌, map}
+use mathlib.Core.List.{List, [], ◌∷◌, ◌++◌}
 use Prim.Native.Nat.{ℕ, zero, suc, ◌+◌, ◌-◌, ◌≤◌, min}
 use native.Mathlib.Omega.{arith}
-use lib.ListN.{length, take, drop, replicate, length-append, length-take, length-drop, length-map, length-replicate, replicate-append-replicate, take-append-drop}
-use lib.Seq.{length-take-le, take_at, drop_at, take-length, take-take, take-append-add, take-append_seam}
+use lib.ListN.{length, take, drop, replicate, length-append, length-take, length-drop, length-replicate, replicate-append-replicate, take-append-drop}
+use lib.Seq.{length-take-le, take_at, drop_at, take-take, take-append-add, take-append_seam}
 use borrow.Rule.Slice.PartMut.{put_mid}
 use Rattle.kinds.proofs.Writing.{grown}
 use Rattle.stream.specs.Stream.{held, kept}
@@ -35,10 +35,6 @@ pub kept_within : (begun : Begun) (line : List ℕ) → begun ≡ kept line → 
 unfolding kept
 kept_within begun line h = rw h (simp (length-take, length-append) (omega arith))
 
--- nothing is held
-pub none_held : (begun : Begun) (rest : List ℕ) → begun.count ≡ 0 → held begun ++ rest ≡ rest
-none_held begun rest h = ap (λ (n : ℕ). take n begun.bytes ++ rest) h
-
 -- ---- zeros behind them
 zeros : (z n j k : ℕ) → j + k ≡ n → take k (replicate n z) ≡ drop j (replicate n z)
 zeros z n j k e =
@@ -62,10 +58,6 @@ filled n l =
 -- ---- more bytes have come
 pub take_min : (n : ℕ) (l : List ℕ) → take (min n (length l)) l ≡ take n l
 take_min n l = ap (λ (k : ℕ). take k l) (sym (length-take n l)) ∙ ap (take (length (take n l))) (sym (take-append-drop n l)) ∙ take-append_seam (take n l) (drop n l)
-
--- as many bytes as the array has
-pub array_long : (l : List ℕ) → length (map (λ v. v) l) ≡ 27 → length l ≡ 27
-array_long l h = sym (length-map l (λ v. v)) ∙ h
 
 abbrev blank : List ℕ
 blank = replicate 27 0
@@ -99,25 +91,22 @@ module _ (begun : Begun) (long : length begun.bytes ≡ 27) (first : ℕ) (is-fi
         ∙ ap (λ (l : List ℕ). p ++ l) (sym (take_min (27 - first) more) ∙ ap (λ (n : ℕ). take n more) (sym f))
 
     -- one has the first, before zeros; two is what is lent of it behind these, with the second
-    module _ (one : List ℕ) (is_one : one ≡ take (length (take first begun.bytes)) (take first begun.bytes) ++ drop (length (take first begun.bytes)) blank) where
+    module _ (one : List ℕ) {r : ℕ} (is-r : r ≡ length (take first begun.bytes)) (is_one : one ≡ take first begun.bytes ++ drop r blank) where
       one_is : one ≡ take first begun.bytes ++ drop first blank
-      one_is = is_one ∙ (λ i. take-length (take first begun.bytes) i ++ drop (first_long i) blank)
+      one_is = is_one ∙ ap (λ (n : ℕ). take first begun.bytes ++ drop n blank) (is-r ∙ first_long)
 
       one_long : length (take first begun.bytes ++ drop first blank) ≡ 27
       one_long = omega (arith, length-append (take first begun.bytes) (drop first blank), length-drop first blank, first_long)
 
-      pub second_fits : length (take second more) ≤ length (take (27 - first) (drop first one))
-      second_fits = omega (arith, second_long, length-take (27 - first) (drop first one), length-drop first one, ap length one_is, one_long)
-
-      pub extended_is : (two : List ℕ) → two ≡ take (length (take second more)) (take second more) ++ drop (length (take second more)) (take (27 - first) (drop first one))
+      pub extended_is : (two : List ℕ) {n : ℕ} → n ≡ length (take second more) → two ≡ take second more ++ drop n (take (27 - first) (drop first one))
           → record { bytes = put_mid first (27 - first) one two; count = first + second } ≡ kept (held begun ++ more)
       unfolding kept
-      extended_is two is-two =
+      extended_is two is-n is-two =
           let p : List ℕ = take first begun.bytes in
           let q : List ℕ = take second more in
           let all : length (take 27 (held begun ++ more)) ≡ first + second = omega (arith, ap length both_are, length-append p q, first_long, second_long) in
           let bytes : put_mid first (27 - first) one two ≡ take 27 ((held begun ++ more) ++ blank) =
-          rw (is-two, take-length q, second_long, one_is)
+          rw (is-two, is-n, second_long, one_is)
           (subst (λ (n : ℕ). put_mid first (n - first) (p ++ drop first blank) (q ++ drop second (take (n - first) (drop first (p ++ drop first blank)))) ≡ (p ++ q) ++ drop (first + second) blank) one_long (grown p blank q first second first_long)
           ∙ (λ i. sym both_are i ++ drop (sym all i) blank)
           ∙ sym (filled 27 (held begun ++ more))) in

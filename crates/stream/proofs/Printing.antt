@@ -3,11 +3,11 @@
 use mathlib.Core.Path.{◌≡◌, refl, sym, ap, ◌∙◌, subst}
 use mathlib.Core.Bool.{true}
 use mathlib.Core.List.{List, [], ◌∷◌, ◌++◌, flat_map, append_assoc}
-use Prim.Native.Nat.{ℕ, ◌+◌, ◌*◌, ◌<◌, ◌≤◌}
+use Prim.Native.Nat.{ℕ, ◌*◌, ◌<◌, ◌≤◌}
 use native.Mathlib.Omega.{arith}
 use lib.Dec.{eqb, leb}
 use lib.ListN.{length, take, drop, length-append}
-use lib.Seq.{take_all, take-length, take-take, length-take-le}
+use lib.Seq.{take_all, take-take, length-take-le}
 use borrow.Author.Tests.{leb-true, leb-false, le-leb, ne_eqb}
 use Rattle.whole.specs.Digits.{byte_of}
 use Rattle.whole.proofs.Bools.{by_test}
@@ -199,8 +199,3 @@ module _ (form : Form) (line out : List ℕ) (room : length (printed form line) 
     pub refusal_put : (r : ℕ) (new : List ℕ) → (r ≡ length (refused_line form number)) × (new ≡ refused_line form number ++ drop r same)
         → (r ≡ length (printed form line)) × (new ≡ printed form line ++ drop r out)
     refusal_put r new put = (put.0 ∙ ap length text_is, put.1 ∙ (λ i. text_is i ++ drop r ((is_same ∙ said.1) i)))
-
--- ---- text that is copied whole to the start of out
-pub copied : (text line out : List ℕ) (r : ℕ) (new : List ℕ) → text ≡ line → (r ≡ length text) × (new ≡ take (length text) text ++ drop (length text) out)
-    → (r ≡ length line) × (new ≡ line ++ drop r out)
-copied text line out r new is-text put = (put.0 ∙ ap length is-text, put.1 ∙ (λ i. (take-length text ∙ is-text) i ++ drop (sym put.0 i) out))

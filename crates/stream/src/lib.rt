@@ -6,7 +6,7 @@ ghost use Rattle.std.specs.Prelude.{◌≡◌, true, [], ◌++◌, ◌+◌, ◌<
 ghost use Rattle.kinds.specs.Bytes.{part};
 ghost use Rattle.line.specs.declared.Form.TheVariants.{Numbers, Waypoints};
 ghost use Rattle.stream.specs.Stream.{refused_line, printed, held, kept, started, after, at_end, taken_of, answers, closing};
-ghost use Rattle.stream.specs.Inside.{Clear, FirstFeed, end_for, low_first};
+ghost use Rattle.stream.specs.Inside.{Clear, First, FirstFeed, end_for, low_first};
 
 use kinds::WrittenAnswer;
 use line::{Form, LINE, WAYPOINT};
@@ -52,6 +52,7 @@ const BLOCK: usize = 128;
 
 impl Begun {
     // No line is begun.
+    #[tactic(auto, unfolding(crate::specs::Stream::kept))]
     fn none() -> Begun
         ensures { result ≡ kept [] }
     {
@@ -99,7 +100,7 @@ pub fn feed(reading: Reading, bytes: &[u8], out: &mut [u8]) -> Fed
     let mut lines = out.len() / WAYPOINT;
     let mut from = 0;
     let mut put = 0;
-    loop {
+    'lines: loop {
         let to = end_for(lines, from, most);
         let end = line_feed(bytes, from, to);
         if to <= end {
@@ -160,7 +161,7 @@ fn line_feed(bytes: &[u8], from: usize, to: usize) -> usize
     if !(is_clear(bytes, from) & is_clear(bytes, from + 8) & is_clear(bytes, from + 16)) {
         return by_words(bytes, from, to);
     }
-    let near = bytes::scan::find(bytes, from + 24, from + 28, b'\n');
+    let near = find(bytes, from + 24, from + 28, b'\n');
     if near < from + 28 {
         return near;
     }
@@ -193,14 +194,27 @@ fn by_words(bytes: &[u8], from: usize, to: usize) -> usize
     let mut at = from;
     while WORD <= to - at {
         if !is_clear(bytes, at) {
-            let end = bytes::scan::find(bytes, at, at + WORD, b'\n');
+            let end = find(bytes, at, at + WORD, b'\n');
             if end < at + WORD {
                 return end;
             }
         }
         at += WORD;
     }
-    bytes::scan::find(bytes, at, to, b'\n')
+    find(bytes, at, to, b'\n')
+}
+
+// Where the first such byte is, from a place up to another, or the other where none is.
+fn find(bytes: &[u8], from: usize, to: usize, byte: u8) -> usize
+    requires { (from ≤ to) × (to ≤ length bytes.now) }
+    ensures { First byte from to bytes.now result }
+{
+    for at in from..to {
+        if bytes[at] == byte {
+            return at;
+        }
+    }
+    to
 }
 
 // That no line feed is in a block. In one expression, so that its words are tested together.
@@ -314,6 +328,7 @@ fn refused(form: Form, number: u8, out: &mut [u8]) -> usize
     }
 }
 
+#[tactic(auto, unfolding(crate::specs::Stream::refused_line))]
 fn refused_line(number: u8) -> [u8; 10]
     requires { number < 10 }
     ensures { result ≡ refused_line Numbers number }
@@ -323,6 +338,7 @@ fn refused_line(number: u8) -> [u8; 10]
     line
 }
 
+#[tactic(auto, unfolding(crate::specs::Stream::refused_line))]
 fn comment(number: u8) -> [u8; REFUSED]
     requires { number < 10 }
     ensures { result ≡ refused_line Waypoints number }

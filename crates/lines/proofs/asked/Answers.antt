@@ -1,0 +1,13 @@
+use Rattle.std.proofs.Common.{◌≡◌, ◌∙◌, sym, ap, cond, Bool}
+use lib.Pointwise.{pointwise}
+use lib.Dec.{eqb}
+use Rattle.line.specs.declared.Form.TheVariants.{Numbers, Waypoints}
+use Rattle.lines.specs.declared.Request.TheVariants.{Answers, Unknown}
+use Rattle.lines.specs.Asked.{asked}
+use Rattle.lines.proofs.Texts.{word_asked}
+use Rattle.lines.proofs.asked.Goals as goal
+
+pub returns : goal.returns
+returns c =
+    let same = c.eq.ensures ∙ ap (pointwise eqb c.args.next.now) c.as_slice.ensures in
+    ap (λ (b : Bool). cond b (Answers Waypoints) Unknown) (sym c.if-words-eq.false) ∙ word_asked c.args.words c.args.next.now c.if-words-lt2.false same
