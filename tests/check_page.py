@@ -29,7 +29,9 @@ PATH = 'docs/CHECK.md'
 FILES = {1: 'cyprus', 2: 'minna', 3: 'alaska', 4: 'qatar', 5: 'kandawala', 6: 'nahrwan'}
 ENDS = ['south', 'north', 'west', 'east']
 FRAME = ['family', 'K of U', 'K of V', 'centre of U', 'centre of V', *ENDS]
+# of each equation the table in the code and in the definition
 COLUMNS = {'dLat': 'LATITUDE', 'dLon': 'LONGITUDE', 'dH': 'HEIGHT', 'N': 'HEIGHT'}
+DEFINED = {'dLat': 'd_lat', 'dLon': 'd_lon', 'dH': 'd_h', 'N': 'n'}
 VALUES = ['first', 'second', 'third']
 UNITS = {5: ('"', '0.00001"'), 3: (' m', '0.001 m')}     # by decimal places: the page's unit, and the code's
 IN_ALL = 157
@@ -71,7 +73,7 @@ def coded(text, name):
 
 def defined(text, name):
     """The terms of the definition, a line each."""
-    body = re.search(rf'^{name if name != "N" else "n"} =\n(.*?)\n    ∷ \[\]\n', text, re.M | re.S)[1]
+    body = re.search(rf'^{DEFINED[name]} =\n(.*?)\n    ∷ \[\]\n', text, re.M | re.S)[1]
     rows = [re.fullmatch(r'    (?:∷ )?(plus|minus) (\d+) U\^ (\d) V\^ (\d)', row) for row in body.split('\n')]
     if not all(rows):
         raise SystemExit(f'{name}: the definition has a line that is no term')
@@ -133,7 +135,7 @@ def squeezed(source):
 
 def bounds(code):
     """The bounds in thousandths that the definition's page has, each beside its own equation."""
-    names = ['n' if name == 'N' else name for name, *_ in document_000.equations(code)]
+    names = [DEFINED[name] for name, *_ in document_000.equations(code)]
     form = f'  equations = {family_of(code)} ' + ' '.join(rf'\({name} near (\d+)\)' for name in names) + ';'
     return [int(bound) for bound in only(form, page_of(code), f'code {code}: the definition\'s line of equations and bounds')]
 

@@ -2,8 +2,8 @@
 """README.md and docs/ say what is so: python3 tests/documents.py
 
 Links, and files that stand in backticks, are there. The tables of datums, areas, fits and refusals, and the orders of
-refusals, are those of document 000, of tests/pages.py and of the header; the worked point of README.md is worked again. What
-README.md, docs/RULES.md and docs/PROVED.md name is where they say, and a heading of document 01 that a source cites is one of
+refusals, are those of document 000, of tests/pages.py and of the header; the worked point of README.md is worked again, and the
+toolchain that it names is that of toolchain.txt. What README.md, docs/RULES.md and docs/PROVED.md name is where they say, and a heading of document 01 that a source cites is one of
 docs/RULES.md. Crates, tests of the gate and decisions are all listed, each once.
 """
 import glob
@@ -17,17 +17,19 @@ import header
 import ledger
 import lines
 import pages
+import rooms
 from program import content
 
 MOST = 130                     # lines of README.md
 DOCUMENTS = ['README.md', *sorted(glob.glob('docs/*.md'))]
-# a file, where it stands in backticks, and the folders in which it may be; NAME, CRATE and the like stand for another word, and
-# some files are the reader's own
+# a file, where it stands in backticks, and the folders in which it may be; NAME, CRATE and the like stand for another word, some
+# files are the reader's own or made by rt, and a page on how things came about names what is gone
 NAMED = re.compile(r'(?<![\w/.-])((?:[\w.-]+/)*[\w-]+\.(?:antt|rt|py|md|c|h|txt|svg|edit)|'
                    r'(?:crates|docs|examples|include|tests|\.ci)/[\w./-]+\w)')
-FOLDERS = ['', 'crates/', 'tests/', 'tests/*/', 'crates/*/', 'crates/*/*/']
+FOLDERS = ['', 'crates/', 'tests/', 'tests/*/', 'crates/*/', 'crates/*/*/', 'crates/*/*/*/']
 STANDS_FOR = re.compile(r'\b(?:NAME|CRATE|PROGRAM|FUNCTION|TYPE|N)\b')
-OWN = {'answers.txt', 'big.txt'}
+OWN = {'answers.txt', 'big.txt', 'crates/lines/out/lines'}
+OF_THE_PAST = {'docs/PORT.md'}
 
 
 def rows(text, head):
@@ -47,7 +49,8 @@ def links():
         text, folder = content(path), os.path.dirname(path)
         for target in re.findall(r'\]\(([^)]+)\)', text):
             wrong += [] if os.path.exists(os.path.join(folder, target)) else [f'{path}: a link to {target}, which is not there']
-        named = {target for span in re.findall('`([^`\n]+)`', text) for target in NAMED.findall(span)}
+        spans = re.findall('`([^`\n]+)`', text) if path not in OF_THE_PAST else []
+        named = {target for span in spans for target in NAMED.findall(span)}
         wrong += [f'{path}: names {target}, which is not there' for target in sorted(named) if not is_there(target)]
     return wrong
 
@@ -186,7 +189,7 @@ def rules():
     for names, place in re.findall(ledger.PLACED, ' '.join(text.split())):
         wrong += [f'docs/RULES.md: no `{name}` in {place}' for name in re.findall('`([^`]+)`', names) if name not in ledger.at(place)]
     prose = ' '.join(line for line in text.split('\n') if not line.startswith(('|', '    ')))
-    left = re.findall(r'`([a-z_]\w*)`', re.sub(ledger.PLACED, '', ' '.join(prose.split())))
+    left = re.findall(r'`([a-z_◌][\w◌]*)`', re.sub(ledger.PLACED, '', ' '.join(prose.split())))
     return wrong + [f'docs/RULES.md: `{name}` has no place' for name in left if name not in ledger.CRATES + ['refused']]
 
 
@@ -216,7 +219,7 @@ def headings():
 
 def lists():
     """README.md lists each crate, docs/CHANGING.md each test of the gate with its words, and docs/DECISIONS.md each number once."""
-    crates = re.findall(r'^(\w+):', content('crates.txt'), re.M)
+    crates = list(rooms.known())
     table = re.search(r'^\| crate \|.*\n((?:\|.*\n)+)', content('README.md'), re.M)[1]
     told = [name for row in table.split('\n') for name in re.findall(r'`(\w+)`', row.split(' | ')[0])]
     wrong = [] if sorted(told) == sorted(crates) else [f'README.md: lists other crates: {sorted(set(told) ^ set(crates))}']
@@ -246,13 +249,18 @@ def shown():
     return wrong + [f'{path}: its example is not points.txt, answered' for path in paths if beside not in content(path)]
 
 
+def toolchain():
+    name = content('toolchain.txt').strip()
+    return [] if f'`{name}`' in content('README.md') else [f'README.md does not name the toolchain {name}']
+
+
 def short():
     count = content('README.md').count('\n')
     return [] if count <= MOST else [f'README.md has {count} lines, and {MOST} at most']
 
 
 def main():
-    checks = [links, datums, refusals, orders_for_c, orders, worked_point, demands, rules, theorems, headings, lists, shown, short]
+    checks = [links, datums, refusals, orders_for_c, orders, worked_point, demands, rules, theorems, headings, lists, shown, toolchain, short]
     wrong = [line for check in checks for line in check()]
     print('\n'.join(wrong) or f'documents: {len(DOCUMENTS)} pages, and what they say is so')
     sys.exit(1 if wrong else 0)

@@ -169,12 +169,12 @@ def alike():
 
 
 def shown():
-    """The exact dLat of code 1 at document 000's test point, in lowest terms, is the one that the theorem `exact-worked` has."""
+    """The exact dLat of code 1 at document 000's test point, in lowest terms, is the one that the theorem `exact_worked` has."""
     code, *place = pages.PRINTED[0][:3]
     value = Fraction(exact(document_000.equations(code), *tops(document_000.frame(code), place))[0], WHOLE)
     with open('crates/datum/proofs/Demands.antt', encoding='utf-8') as f:
         source = f.read()
-    statement = f'(pos {place[0]}) (pos {place[1]})) (λ dLat dLon dH. Within 0 1 (dLat times whole (pos {value.denominator})) (negℤ (pos {-value.numerator})))'
+    statement = f'(pos {place[0]}) (pos {place[1]})) (λ d_lat d_lon d_h. Within 0 1 (d_lat times whole (pos {value.denominator})) (neg_ℤ (pos {-value.numerator})))'
     if statement not in source:
         yield f'crates/datum/proofs/Demands.antt does not show {value}'
 

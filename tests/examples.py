@@ -1,6 +1,6 @@
 #!/usr/bin/env python3
 """The programs of examples/, built from the header and the archive alone, in a folder that has nothing else, and run: python3
-tests/examples.py, where rt staticlib buckettin has been run.
+tests/examples.py, where tests/archive has been run.
 
 Each is built as C99 and as C++, with every warning an error. What they must print is document 01's, of two centres and of points
 outside, for waypoints what tests/waypoints.py works out, and what the comment of each promises.

@@ -1,5 +1,5 @@
 #!/usr/bin/env python3
-"""Coverage-guided fuzzing of the C interface: python3 tests/fuzz.py MINUTES [FOLDER], where rt staticlib buckettin has been run.
+"""Coverage-guided fuzzing of the C interface: python3 tests/fuzz.py MINUTES [FOLDER], where tests/archive has been run.
 
 Needs clang 14 with libFuzzer (Debian: clang-14, libclang-rt-14-dev). One process fuzzes tests/hostile/fuzz.c for so many minutes,
 half of them with a value profile, from the inputs below and from what an earlier run left in the folder. On x86-64 each execution

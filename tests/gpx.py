@@ -1,5 +1,5 @@
 #!/usr/bin/env python3
-"""A GPX file that `./lines --gpx` makes, through programs that read such files: python3 tests/gpx.py, where rt check lines has been
+"""A GPX file that `./lines --gpx` makes, through programs that read such files: python3 tests/gpx.py, where ./lines has been
 run. Needs xmllint and gpsbabel (Debian: libxml2-utils, gpsbabel). python3 tests/gpx.py FILE looks at a file that is there: that
 which --write FILE makes, as tests/waypoints.py works it out, with no program of this repository.
 

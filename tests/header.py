@@ -1,12 +1,13 @@
 #!/usr/bin/env python3
-"""include/buckettin.h beside what it declares: python3 tests/header.py, where rt staticlib buckettin has been run.
+"""include/buckettin.h beside what it declares: python3 tests/header.py, where tests/archive has been run.
 
-No proof sees the header. Its declarations are compared with the exported functions and their structs in
-crates/buckettin/src/lib.rt (names, order, parameters, widths) and with the symbols of the archive; its names of codes and of
+No proof sees the header. Its declarations are compared with the exported functions of crates/buckettin_c/src/lib.rt and the structs
+of crates/buckettin/src/lib.rt (names, order, parameters, widths) and with the symbols of the archive; its names of codes and of
 refusals with the definitions; its table of datums with tests/pages.py and docs/document-000.txt, and its orders of refusals with
 those of documents 01 and 02; a compiler must warn of each answer that is dropped; and a program in C that is built from it,
 tests/header.c, asserts the layout of each struct and makes each call that a comment of the header has as an example, as it stands
-there.
+there. And each exported function hands its parameters on to the one of its name in crate `buckettin`, under the same promise: so
+the theorems and the wrong programs of that crate speak of what C calls.
 """
 import os
 import re
@@ -23,11 +24,13 @@ import waypoints
 from program import content
 
 HEADER = 'include/buckettin.h'
-SOURCE = 'crates/buckettin/src/lib.rt'
+CALLS = 'crates/buckettin/src/lib.rt'
+EXPORTS = 'crates/buckettin_c/src/lib.rt'
 WIDTH = 125
 POINTS = 500                   # of a sheet, at most
 WIDTHS = {'i64': 'int64_t', 'i32': 'int32_t', 'u32': 'uint32_t', 'f64': 'double'}
 BYTES = {'&[u8]': ('const uint8_t *', 'length'), '&mut[u8]': ('uint8_t *', 'room')}
+IN_C = {'res': 'result'}       # in the source a promise calls the answer `result`
 
 
 def in_c(name):
@@ -39,6 +42,7 @@ def parameters(given):
     """Those of a function of the source, as C has them: a slice is a pointer and a count of bytes."""
     found = []
     for name, kind in re.findall(r'(\w+): ([^,]+)', given):
+        name = IN_C.get(name, name)
         if kind in WIDTHS:
             found.append(f'{WIDTHS[kind]} {name}')
         else:
@@ -49,13 +53,37 @@ def parameters(given):
 
 def exported(source):
     """The declarations that the source asks for."""
-    functions = re.findall(r'#\[no_mangle\]\npub extern "C" fn (\w+)\(([^)]*)\) -> (\w+)', source)
+    functions = re.findall(r'#\[unsafe\(no_mangle\)\]\npub extern "C" fn (\w+)\(([^)]*)\) -> (\w+)', source)
     return [f'{WIDTHS.get(answer) or in_c(answer)} {name}({parameters(given)});' for name, given, answer in functions]
+
+
+def functions(source):
+    """The public functions of a source by their names: parameters, answer and promise, and the body; spaces are squeezed."""
+    form = r'^pub (?:extern "C" )?fn (\w+)(\([^)]*\) -> \w+\n(?: .*\n)*)\{\n((?: .*\n)*)\}'
+    return {name: (' '.join(head.split()), ' '.join(body.split())) for name, head, body in re.findall(form, source, re.M)}
+
+
+def imported(source):
+    """What the promises of a source know, each name with its module."""
+    found = re.findall(r'^ghost use ([\w.]+)\.\{(.*)\};$', source, re.M)
+    return {(module, name) for module, names in found for name in names.split(', ')}
+
+
+def handed_on(exports, calls):
+    """What is wrong with the exports, each of which is to do nothing but call the function of its name."""
+    here, below, wrong = functions(exports), functions(calls), []
+    wrong += [] if len(here) == len(exported(exports)) == exports.count('no_mangle') else [f'{EXPORTS}: an export is not understood']
+    wrong += [f'{EXPORTS}: {name} is of {module}, and {CALLS} does not know it' for module, name in sorted(imported(exports) - imported(calls))]
+    for name, (head, body) in here.items():
+        passed = ', '.join(re.findall(r'(\w+): ', head[1:head.index(')')]))
+        if name not in below or head != below[name][0] or body != f'buckettin::{name}({passed})':
+            wrong.append(f'{EXPORTS}: {name} is not that of crate buckettin, with its parameters and its promise')
+    return wrong
 
 
 def structs(source):
     """The fields of each struct that C gets, as the source has them."""
-    found = re.findall(r'#\[repr\(C\)\]\npub struct (\w+) \{\n(.*?)\n\}', source, re.S)
+    found = re.findall(r'#\[repr\(C\)\]\n(?:#\[[^\]\n]*\]\n)*pub struct (\w+) \{\n(.*?)\n\}', source, re.S)
     rows = {in_c(name): re.findall(r'pub (\w+): (\w+)', fields) for name, fields in found}
     return {name: [(WIDTHS[kind], field) for field, kind in fields] for name, fields in rows.items()}
 
@@ -85,7 +113,7 @@ def codes():
 
 def refusals():
     """The refusals, by their numbers, as the definition gives them; and 0 for none."""
-    found = re.findall(r'^numberOf (\w+) = (\d+)$', content('crates/kinds/specs/Answer.antt'), re.M)
+    found = re.findall(r'^number_of (\w+) = (\d+)$', content('crates/kinds/specs/Answer.antt'), re.M)
     return {0: 'ANSWERED', **{int(number): name.upper() for name, number in found}}
 
 
@@ -239,11 +267,11 @@ def version(header):
     return int(number), sum(int(part) * unit for part, unit in zip(parts, (1_000_000, 1000, 1)))
 
 
-def compared(header, source):
+def compared(header, exports, calls):
     """What is wrong with the declarations, structs, names and tables of the header."""
-    wrong = [f'the source asks for {line}' for line in exported(source) if line not in declared(header)]
-    wrong += [f'no export is {line}' for line in declared(header) if line not in exported(source)]
-    wrong += [] if structs(source) == typedefs(header) else [f'structs differ: {structs(source)} and {typedefs(header)}']
+    wrong = [f'the source asks for {line}' for line in exported(exports) if line not in declared(header)]
+    wrong += [f'no export is {line}' for line in declared(header) if line not in exported(exports)]
+    wrong += [] if structs(calls) == typedefs(header) else [f'structs differ: {structs(calls)} and {typedefs(header)}']
     for what, told, must in (
             ('areas', areas(header), pages.AREAS), ('codes', enumerated(header, 'buckettin_codes'), codes()),
             ('refusals', enumerated(header, 'buckettin_refusals'), refusals()), ('orders', orders(header), ORDERS),
@@ -257,8 +285,8 @@ def compared(header, source):
 
 
 def main():
-    header, source = content(HEADER), content(SOURCE)
-    wrong = compared(header, source)
+    header, exports, calls = map(content, (HEADER, EXPORTS, CALLS))
+    wrong = compared(header, exports, calls) + handed_on(exports, calls)
     names = {re.search(r'buckettin_\w+(?=\()', line)[0] for line in declared(header)}
     given, taken = symbols()
     wrong += [] if given == names else [f'the archive gives {sorted(given ^ names)} or the header does, but not both']
@@ -267,7 +295,7 @@ def main():
     found, called = examples(header)
     wrong += [f'{name} has no example' for name in sorted(names - called)]
     wrong += ['an example is not so'] if run(found) else []
-    print('\n'.join(wrong) or f'the header: {len(names)} functions and {len(structs(source))} structs as in the source')
+    print('\n'.join(wrong) or f'the header: {len(names)} functions and {len(structs(calls))} structs as in the source')
     sys.exit(1 if wrong else 0)
 
 

@@ -1,6 +1,6 @@
 #!/usr/bin/env python3
 """The archive beside a second implementation, through the C interface: python3 tests/hostile.py [CASES [SEED]], where
-rt staticlib buckettin has been run. Without a seed it is always the same one, so that the gate can be repeated.
+tests/archive has been run. Without a seed it is always the same one, so that the gate can be repeated.
 
 tests/hostile/compare.c says what is tried. python3 tests/hostile.py --self-test shows that it can fail: a copy of the second
 implementation stands in for the archive, with one slip at a time, and each slip must be found; the copy without a slip must pass.

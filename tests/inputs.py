@@ -1,5 +1,5 @@
 #!/usr/bin/env python3
-"""The program `lines` on whole inputs, which is run and not proved: python3 tests/inputs.py, where rt check lines has been run.
+"""The program `lines` on whole inputs, which is run and not proved: python3 tests/inputs.py, where ./lines has been run.
 
 What it must print is worked out by tests/lines.py, and with --gpx by tests/waypoints.py. The checks are of what lies outside the
 proofs: how an input comes in pieces and ends, how much of it is read, outputs and inputs that fail, arguments, stack and heap; and
@@ -12,7 +12,6 @@ import re
 import resource
 import select
 import shutil
-import signal
 import subprocess
 import sys
 import tempfile
@@ -44,10 +43,10 @@ OTHER_WORDS = b'lines: it takes no argument but --gpx\n'
 REFUSED_WORDS = b'lines: it takes no arguments but --gpx and reads standard input; ./lines --help says more\n'
 FIRST = b'lines: the first run proves and builds the program, which takes a few minutes\n'
 CLOSED = b'lines: standard input or standard output is closed\n'
-GONE = b'lines: target/bin/lines is gone; remove the folder target, and run ./lines again\n'
+GONE = b'lines: crates/lines/out/lines is gone; remove the folder crates/lines/out, and run ./lines again\n'
 UNPROVED = b'lines: the program could not be proved and built\n'
 UNBUILT = b'lines: the program has not been built, and rt, of the Rattle toolchain, which builds it, is not on the path\n'
-NO_EMULATOR = b'lines: rt is not on the path, and on this machine its emulator is needed\nlines: the program ended with status 2\n'
+NO_LIBRARY = b'lines: rt is not on the path, and on this machine its C library is needed\nlines: the program ended with status 2\n'
 
 
 def printed(given, command=COMMAND):
@@ -104,8 +103,8 @@ def refuses_words(*words):
 
 
 def ends_at_closed_output(is_ignored):
-    """A write that no one can read gives a signal, which ends the program; ignored, the write fails, and that ends it too. Its
-    input has been read from once."""
+    """A write that no one can read fails, and ends the program: the signal of it is ignored from the start, as by every program of
+    the toolchain, where it was not before too. Its input has been read from once."""
     reading, writing = os.pipe()
     os.close(reading)
     with tempfile.TemporaryFile() as f:
@@ -114,8 +113,7 @@ def ends_at_closed_output(is_ignored):
         done = subprocess.run(COMMAND, stdin=f, stdout=writing, stderr=subprocess.PIPE, restore_signals=not is_ignored, timeout=WAIT)
         os.close(writing)
         taken = os.lseek(f.fileno(), 0, os.SEEK_CUR)
-    ended = (0, UNWRITTEN) if is_ignored else (-signal.SIGPIPE, b'')
-    return (done.returncode, done.stderr) == ended and taken <= lines.READ
+    return (done.returncode, done.stderr) == (0, UNWRITTEN) and taken <= lines.READ
 
 
 def ends_unread(unread, answered=b'', command=COMMAND):
@@ -162,7 +160,7 @@ def alone(given, *words, others=None):
     """The same, where the path has nothing but the tools that ./lines calls; with others, which are scripts by their places, of a
     copy of it in a folder that has nothing but these."""
     with tempfile.TemporaryDirectory() as room:
-        for folder in ('bin', 'tests', 'target/bin'):
+        for folder in ('bin', 'tests', 'crates/lines/out'):
             os.makedirs(os.path.join(room, folder))
         for tool in TOOLS:
             os.symlink(shutil.which(tool), os.path.join(room, 'bin', tool))
@@ -177,7 +175,7 @@ def alone(given, *words, others=None):
 def helps():
     """Where there is no toolchain and no program."""
     long, short = alone(b'', '--help', others={}), alone(b'', '-h', others={})
-    told = (GOOD, OUTPUT.split(b'\n')[0], b'./lines --gpx', b'Exit status:', b'target/bin/lines', b'100,000,000', b'docs/LINES.md')
+    told = (GOOD, OUTPUT.split(b'\n')[0], b'./lines --gpx', b'Exit status:', b'crates/lines/out/lines', b'100,000,000', b'docs/LINES.md')
     return long == short == (0, long[1], b'') and all(words in long[1] for words in told)
 
 
@@ -192,7 +190,7 @@ def ends_unwritten(path, said, *words):
 
 
 def ends_at_closed_pipe(is_ignored):
-    """Where no one reads what ./lines prints, it ends, and says no more than the program does."""
+    """Where no one reads what ./lines prints, it ends, as other programs do: with no word, or where the signal is ignored with one."""
     reading, writing = os.pipe()
     os.close(reading)
     ended = through(INPUT * 10_000, stdout=writing, restore_signals=not is_ignored)
@@ -220,8 +218,8 @@ def answers_at_once(words, answer):
 
 
 def is_right_without_rt():
-    """On x86-64 the program that was built is run as it is; on another processor it needs the toolchain's emulator."""
-    ends = [(2, b'', NO_EMULATOR)] * 2 if program.emulator() else [(1, OUTPUT, b''), (1, FILE, b'')]
+    """On x86-64 the program that was built is run as it is; on another processor it needs the toolchain's C library."""
+    ends = [(2, b'', NO_LIBRARY)] * 2 if program.emulator() else [(1, OUTPUT, b''), (1, FILE, b'')]
     return [alone(INPUT), alone(INPUT, '--gpx')] == ends
 
 
@@ -242,7 +240,7 @@ def is_right_at_once():
 
 def ends_by_signal():
     """A program that is ended by a signal, of which the shell may say a word of its own."""
-    status, out, said = alone(INPUT, others={'target/bin/lines': '', 'tests/run': 'kill -KILL $$'})
+    status, out, said = alone(INPUT, others={PROGRAM: '', 'tests/run': 'kill -KILL $$'})
     return (status, out) == (2, b'') and said.endswith(b'lines: the program ended with status 137\n')
 
 
@@ -259,11 +257,23 @@ def is_as_in_readme():
     return through(b'', '-c', command, script='sh') == (1, '\n'.join(shown + ['']).encode(), b'')
 
 
-TOOLS = ('cat', 'dd', 'dirname', 'grep', 'readlink', 'sh', 'tee', 'uname')    # that ./lines and tests/run call
-PROVES = '; '.join([': >target/bin/lines', 'echo "rt: a proved (1 s)"', 'echo "rt: ok, 2 crates proved"',
-                    'echo "rt: lines proved (unchanged since it was last proved)"'])
-# What the C compiler's own files of a program's start and end name.
-STARTING = {'__libc_start_main', '__cxa_finalize', '__gmon_start__', '_ITM_deregisterTMCloneTable', '_ITM_registerTMCloneTable'}
+PROGRAM = 'crates/lines/out/lines'
+TOOLS = ('cat', 'dd', 'dirname', 'grep', 'readlink', 'sed', 'sh', 'tee', 'uname')    # that ./lines and tests/run call
+# What rt run says of a proof, in the crate's folder.
+SAYS = [
+    'rt: whole: begins with what a check kept in /elsewhere/crates/whole', 'rt: chose --jobs 2 for whole', 'struct whole::Parts: proved',
+    'fn whole::size: proved', 'note: src/main.rt:1:1: what it is', 'logic /kit/antt-project.json: libraries=16', 'crate whole: checked=0',
+    'statements core: modules loaded=222 checked=0', 'logic=proved functions=6', 'rt: chose --jobs 2 for lines', 'fn lines::main: proved',
+    'library whole: modules loaded=0 checked=0', 'axioms libc: none reached of the 128 declared', 'logic=proved functions=1 axioms=2',
+    'linked target=x86_64-unknown-linux-gnu', 'rt: running out/lines; to give it other input, run that file yourself',
+]
+SAID = b'lines: proving whole\nlines: proving lines\n'
+UNCHANGED = 'rt: nothing has changed since the last proved build, by out/lines.stamp, so nothing is checked now'
+PROVES = '; '.join([': >out/lines', *(f'echo "{line}" >&2' for line in SAYS)])
+# What the C compiler's own files of a program's start and end name; and the toolchain's start, which has SIGPIPE ignored, and looks
+# whether the processor is one that the program is compiled for.
+STARTING = {'__libc_start_main', '__cxa_finalize', '__gmon_start__', '_ITM_deregisterTMCloneTable', '_ITM_registerTMCloneTable',
+            '__sysv_signal', '__x86_get_cpuid_feature_leaf', '__write'}
 REST = INPUT[len(GOOD):]
 # The file that --gpx makes of document 01's example, and of nothing, in document 02's form.
 FILE = b'''\
@@ -346,8 +356,9 @@ CHECKS = {
     './lines: ended by a signal': ends_by_signal,
     './lines: no toolchain': is_right_without_rt,
     './lines: no toolchain and no program': lambda: alone(INPUT, others={}) == (2, b'', UNBUILT),
-    './lines: a first run': lambda: proves_first(PROVES, (1, OUTPUT, FIRST + b'rt: a proved (1 s)\n')),
-    './lines: a program that is gone': lambda: proves_first('echo "rt: ok, 2 crates proved"', (2, b'', FIRST + GONE)),
+    './lines: a first run': lambda: proves_first(PROVES, (1, OUTPUT, FIRST + SAID)),
+    './lines: nothing has changed': lambda: proves_first(f': >out/lines; echo "{UNCHANGED}" >&2', (1, OUTPUT, FIRST)),
+    './lines: a program that is gone': lambda: proves_first(f'echo "{UNCHANGED}"', (2, b'', FIRST + GONE)),
     './lines: a proof that fails': lambda: proves_first('echo no; exit 1', (2, b'', FIRST + b'no\n' + UNPROVED)),
 }
 

@@ -1,17 +1,19 @@
 #!/usr/bin/env python3
 """Code that takes one kind of quantity for another does not build: feeds each snippet of tests/must_not_build.txt to the
 toolchain, which must refuse it with one error that says what is written there; those that must build are proved together.
-Goes after rt ci, whose proofs of the other crates it takes over.
+The libraries that the snippets know are proved first, where rt lib has not been run in crates/position.
 """
 import os
 import re
-import shutil
 import subprocess
 import sys
 import tempfile
 
+import rooms
+
 SNIPPETS = 'tests/must_not_build.txt'
 CRATE = 'snippets'
+AT_ONCE = 2
 
 
 def source(path):
@@ -20,22 +22,33 @@ def source(path):
 
 
 def prepare(room):
-    """A copy of the repository with one more crate, which knows the kinds and positions."""
-    for part in ('crates', 'target/rlib', 'target/stamp'):
-        shutil.copytree(part, os.path.join(room, part))
-    with open(os.path.join(room, 'crates.txt'), 'w', encoding='utf-8') as f:
-        f.write(source('crates.txt') + f'{CRATE}: kinds position\n')
+    """A copy of the kinds and positions, and of what they stand on, with one more crate, which knows them."""
+    rooms.fill(room, rooms.below('position') | {'position'}, '.', rooms.LIBRARY, rooms.CHECKED)
+    with open(os.path.join(room, 'crates.txt'), 'a', encoding='utf-8') as f:
+        f.write(f'{CRATE}: kinds position\n')
     os.makedirs(os.path.join(room, 'crates', CRATE, 'src'))
 
 
-def built(room, names, snippets):
-    """Whether a library of these snippets is proved, and the errors that the toolchain names in it."""
+def built(room, names, snippets, *words):
+    """Whether a library of these snippets is proved, and the errors that the toolchain names in it; with `--only ''` whether it is
+    sound before any proof."""
     lines = [f'use kinds::{name};' for name in names if any(name in s for s in snippets)]
     lines += [s.replace('fn f(', f'pub fn f{n}(', 1) for n, s in enumerate(snippets)]
-    with open(os.path.join(room, 'crates', CRATE, 'src', 'lib.rt'), 'w', encoding='utf-8') as f:
-        f.write('\n'.join(lines) + '\n')
-    run = subprocess.run(['rt', 'check', CRATE], cwd=room, capture_output=True, text=True)
+    folder = os.path.join(room, 'crates', CRATE)
+    with open(os.path.join(folder, 'src', 'lib.rt'), 'w', encoding='utf-8') as f:
+        f.write('\n'.join(['#![tactic(auto)]', *lines]) + '\n')
+    run = subprocess.run(['rt', 'check', *words], cwd=folder, capture_output=True, text=True)
     return run.returncode == 0, re.findall(r'lib\.rt:[0-9]+:[0-9]+: (error\[.*)', run.stdout + run.stderr)
+
+
+def tried(room, snippet):
+    """What is wrong with a snippet that must not build."""
+    expected, code = snippet
+    if not os.path.exists(os.path.join(room, 'crates.txt')):
+        prepare(room)
+    proved, errors = built(room, names, [code], '--only', '')
+    is_right = not proved and len(errors) == 1 and expected in errors[0]
+    return [] if is_right else [f'{code}: {"built" if proved else errors}, and it must be refused with {expected}']
 
 
 declared = source('crates/kinds/src/lib.rt')
@@ -50,12 +63,9 @@ for a in kinds:
     for b in kinds:
         if a != b and ('mismatched-types', f'fn f(x: {a}) -> {b} {{ x }}') not in bad:
             wrong.append(f'{SNIPPETS}: no snippet takes a {a} for a {b}')
+wrong += [line for found in rooms.each(tried, bad, AT_ONCE) for line in found]
 with tempfile.TemporaryDirectory() as room:
     prepare(room)
-    for expected, code in bad:
-        proved, errors = built(room, names, [code])
-        if proved or len(errors) != 1 or expected not in errors[0]:
-            wrong.append(f'{code}: {"built" if proved else errors}, and it must be refused with {expected}')
     if built(room, names, good) != (True, []):
         wrong.append('those that must build do not')
 print('\n'.join(wrong) or f'must not build: {len(bad)} snippets refused, {len(good)} built, over {len(kinds)} kinds')

@@ -1,6 +1,7 @@
 #!/usr/bin/env python3
 """The compiled code divides whole numbers by constants and holds no instruction that divides them: reads the machine code of the
-working rule in target/obj/test_pages.o, and of every function in target/staticlib/libbuckettin.a, which C calls.
+working rule in the program crates/test_pages/out/test_pages, which rt ci leaves there, and of every function in
+target/staticlib/libbuckettin.a, which C calls.
 
 That a division by a literal becomes a multiplication is the compiler's doing, and nothing proves it: so it is looked at.
 Floats are divided, once for each value, as document 01 has it.
@@ -11,7 +12,7 @@ import sys
 
 import program
 
-PAGES = 'target/obj/test_pages.o'
+PAGES = 'crates/test_pages/out/test_pages'
 # The function into which the compiler puts whole::rounded and scaled, all with literal divisors, with equation::sum and what is
 # asked of each datum's tables.
 HOT = ['tables::Datum::values']

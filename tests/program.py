@@ -1,13 +1,13 @@
-"""How a program that was built is run, on either kind of machine, as tests/run runs it: programs are compiled for x86-64, and on
-another processor the toolchain's own emulator runs them. And how a test program is asked, and what it must print."""
+"""How a program that was built is run, as tests/run runs it: programs are compiled for x86-64, and on another processor Debian's
+qemu-x86_64 runs them. And how a test program is asked, and what it must print."""
 import os
 import platform
 import shutil
 import subprocess
 import sys
 
-PROVED = 'target/bin'
 ARCHIVE = 'target/staticlib/libbuckettin.a'
+EMULATOR = 'qemu-x86_64'       # of Debian's package qemu-user
 
 
 def content(path):
@@ -16,29 +16,29 @@ def content(path):
 
 
 def tools():
-    """The toolchain's compiled parts for this machine."""
-    home = os.environ.get('RATTLE_HOME') or os.path.dirname(os.path.dirname(os.path.realpath(shutil.which('rt'))))
-    return os.path.join(home, 'on', platform.machine(), 'toolchain')
+    """The toolchain's compiled parts."""
+    return os.path.join(os.path.dirname(os.path.dirname(os.path.realpath(shutil.which('rt')))), 'toolchain')
 
 
 def emulator():
     """The first words of a command that runs x86-64 code here."""
-    found = os.path.join(tools(), 'bin', 'qemu-x86_64')
-    return [found] if os.path.exists(found) else []
+    return [] if platform.machine() == 'x86_64' else [EMULATOR]
 
 
 def proved(name):
     """The command that runs a program of this repository, which rt has proved and built."""
-    path = os.path.join(PROVED, name)
+    path = os.path.abspath(f'crates/{name}/out/{name}')
     if not os.path.exists(path):
-        raise SystemExit(f'{path} is not there: rt check {name} makes it')
+        raise SystemExit(f'{path} is not there: rt run, in crates/{name}, makes it')
     return loaded(path)
 
 
 def loaded(path):
-    """The command that runs a program with the toolchain's own C library, by its own loader."""
+    """The command that runs a program that the machine's own loader starts; under the emulator the toolchain's does, with its own C
+    library."""
     library = os.path.join(tools(), 'lib')
-    return emulator() + [os.path.join(library, 'ld-linux-x86-64.so.2'), '--library-path', library, path]
+    words = [os.path.join(library, 'ld-linux-x86-64.so.2'), '--library-path', library]
+    return [*emulator(), *words, path] if emulator() else [path]
 
 
 # A question on standard input, as crates/test_ask reads it, is a letter, and then its parts.
@@ -103,7 +103,7 @@ def with_stack(size, command):
 def archive():
     """The library that C programs link."""
     if not os.path.exists(ARCHIVE):
-        raise SystemExit(f'{ARCHIVE} is not there: rt staticlib buckettin makes it')
+        raise SystemExit(f'{ARCHIVE} is not there: tests/archive makes it')
     return ARCHIVE
 
 
@@ -123,7 +123,7 @@ def compiled(sources, room, headers=(), name='compiled', words=()):
     return emulator() + [made(sources, room, headers, name, words)]
 
 
-# the files of the toolchain that rt links a program with, before its own and after them
+# the files of the toolchain that rt links a program with, before its own and after them; the program's own loader is the machine's
 STARTS = ['Scrt1.o', 'crti.o', 'crtbeginS.o']
 ENDS = ['libc.so.6', 'ld-linux-x86-64.so.2', 'libc_nonshared.a', 'libgcc.a', 'crtendS.o', 'crtn.o']
 

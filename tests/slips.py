@@ -20,7 +20,7 @@ from collections import namedtuple
 MOST = 12                      # slips to an edit
 
 Slip = namedtuple('Slip', 'crate edit name wrong breaks pairs')
-Item = namedtuple('Item', 'kind name body end')    # a function or a constant of a source, and where in it its body is
+Item = namedtuple('Item', 'kind name start body end')    # a function or a constant of a source, and where it and its body are
 
 
 def text_of(path):
@@ -66,9 +66,11 @@ def edited(text, old, new):
     return text.replace(old, new)
 
 
-def apply(slip, root):
-    """Edits the sources below a folder."""
+def apply(slip, root, below=''):
+    """Edits the files below a folder; with another word, those that begin with it."""
     for place, old, new in slip.pairs:
+        if not place.startswith(below):
+            continue
         path = os.path.join(root, 'crates', slip.crate, place)
         after = edited(text_of(path), old, new)
         with open(path, 'w', encoding='utf-8') as f:
@@ -76,27 +78,37 @@ def apply(slip, root):
 
 
 # ---- the functions and constants of a source, in the layout that rt fmt gives it
-OPENS = re.compile(r'^(?P<in>(?:    )?)(?:pub(?:\(crate\))? )?(?:extern "C" )?(?P<kind>fn|const|impl) (?P<name>\w+)', re.M)
+OPENS = re.compile(
+    r'^(?P<in>(?:    )?)(?:pub(?:\(crate\))? )?(?:extern "C" )?(?P<kind>fn|const|impl(?:<.*?>)?) (?:(?:\w+::)*(?P<trait>\w+)(?:<.*>)? for )?'
+    r'(?P<name>\w+)', re.M)
 
 
 def items(text, place):
-    """In a file of src/. The name of what stands in an impl or a module has its name before it."""
+    """In a file of src/. The name of what stands in an impl or a module has its name before it; that of a trait's impl ends with the
+    trait's."""
     module = os.path.basename(place)[:-len('.rt')]
     around, found = [] if module in ('lib', 'main') else [module], []
     owner, until = None, 0
     for m in OPENS.finditer(text):
-        if m['kind'] == 'impl':
-            owner, until = m['name'], text.index('\n}', m.end())
+        if m['kind'].startswith('impl'):
+            owner, until = m['name'] + (m['trait'] or ''), text.index('\n}', m.end())
             continue
         name = '::'.join(around + ([owner] if m.start() < until else []) + [m['name']])
         if m['kind'] == 'const':
-            found.append(Item('const', name, m.start(), text.index(';\n', m.end())))
+            found.append(Item('const', name, m.start(), m.start(), text.index(';\n', m.end())))
         else:
             close = text.index('\n' + m['in'] + '}', m.end())
             head = text[m.end():close]
             opens = head.find('\n' + m['in'] + '{\n') if 'ensures' in head or 'requires' in head else head.find('{\n')
-            found.append(Item('fn', name, m.end() + opens, close))
+            found.append(Item('fn', name, m.start(), m.end() + opens, close))
     return found
+
+
+def function_at(folder, place, line):
+    """The function in which a line of a source is, or '' where it is in none."""
+    text = text_of(os.path.join(folder, place))
+    at = len(''.join(text.splitlines(True)[:line - 1]))
+    return ''.join(i.name for i in items(text, place) if i.kind == 'fn' and i.start <= at <= i.end)
 
 
 def touched(slip, crates='crates'):

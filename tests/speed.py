@@ -1,8 +1,7 @@
 #!/usr/bin/env python3
-"""How long the program `lines` takes, beside the same in plain C: python3 tests/speed.py [LINES], where rt check lines has been
-run and x86_64-linux-gnu-gcc is there with a static C library.
+"""How long the program `lines` takes, beside the same in plain C: python3 tests/speed.py [LINES], where ./lines has been run and x86_64-linux-gnu-gcc is there with a static C library.
 
-The C program stands here twice: linked statically, and linked as rt links `lines`, which the toolchain's loader starts. All are
+The C program stands here twice: linked statically, and linked as rt links `lines`, with the machine's own C library. All are
 x86-64 and read the same files, one of each of the KINDS: 1,000,000 lines, or as many as the command line says, or one endless
 line; those that ask for waypoints with the argument --gpx. They run in turn, once unmeasured and then as often as RUNS says. Prints
 for each kind how many lines or bytes each takes in a second, and how many times as long as each C `lines` takes, by the clock and by
