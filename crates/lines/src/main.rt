@@ -5,9 +5,10 @@
 // reader and a writer whose bytes are known, which bytes are read and written.
 #![tactic(auto)]
 
-ghost use Rattle.std.specs.Prelude.{◌≡◌, ◌+◌, ◌<◌, ◌≤◌, length, take, Ok, IsOk, IfOk, OnOk};
+ghost use Rattle.std.specs.Prelude.{◌≡◌, ◌↔◌, ◌+◌, ◌<◌, ◌≤◌, length, take, Ok, IsOk, IfOk, OnOk, IsErr, IsErrOf};
 ghost use Rattle.std.specs.Io.KnownBytes.{Appends, Consumes, IsAtEnd};
 ghost use Rattle.stream.specs.Stream.{head, foot, limit, held, answers, closing};
+ghost use Rattle.lines.specs.declared.Failure.TheVariants.{Unwritten};
 ghost use Rattle.lines.specs.Asked.{asked};
 ghost use Rattle.lines.specs.Edges.{edge_text};
 ghost use Rattle.lines.specs.Answered.{Answered, Ended, WritesLines, WritesOutput};
@@ -46,6 +47,15 @@ struct Turn {
 enum Failure {
     Unread,
     Unwritten,
+}
+
+// What fails is a write, but for a read, which `turned` tells apart.
+impl From<io::Error> for Failure {
+    ghost from_gives = { λ _ failure. failure ≡ Unwritten };
+
+    fn from(_error: io::Error) -> Failure {
+        Failure::Unwritten
+    }
 }
 
 impl fmt::Display for Failure {
@@ -142,7 +152,7 @@ fn run<R: Read, W: Write>(
 }
 
 // Hands over what stands at an edge of an output.
-fn at_edge<W: Write>(writer: &mut W, edge: Edge, form: Form) -> Result<usize, Failure>
+fn at_edge<W: Write>(writer: &mut W, edge: Edge, form: Form) -> io::Result<usize>
     ensures value { IfOk result (λ bytes. bytes ≡ length (edge_text edge form)) }
     ensures written { OnOk result (Appends (W.contents writer.old) (W.contents writer.new) (edge_text edge form)) }
 {
@@ -160,12 +170,7 @@ fn at_edge<W: Write>(writer: &mut W, edge: Edge, form: Form) -> Result<usize, Fa
     }
 }
 
-fn write_edge<W: Write>(
-    writer: &mut W,
-    edge: Edge,
-    form: Form,
-    text: &[u8],
-) -> Result<usize, Failure>
+fn write_edge<W: Write>(writer: &mut W, edge: Edge, form: Form, text: &[u8]) -> io::Result<usize>
     requires { text.now ≡ edge_text edge form }
     ensures value { IfOk result (λ bytes. bytes ≡ length (edge_text edge form)) }
     ensures written { OnOk result (Appends (W.contents writer.old) (W.contents writer.new) (edge_text edge form)) }
@@ -239,13 +244,14 @@ fn turned<W: Write>(
     requires piece_len_bound { (length piece.now ≤ reading.left) × (reading.left ≤ limit) }
     requires moved { IfOk got (λ count. count ≤ length piece.now) }
     ensures no_bytes { got ≡ Ok 0 → IsOk result }
+    ensures unread { IsErrOf result Failure.Unread ↔ IsErr got }
     ensures answered { IfOk result (λ turn. (got ≡ Ok turn.count)
         × Answered reading (take turn.count piece.now) turn.reading turn.handed) }
     ensures written { IfOk result (λ turn. Appends (W.contents writer.old) (W.contents writer.new)
         (answers reading.form (held reading.begun) (take turn.count piece.now))) }
 {
     match got {
-        Ok(count) => answer(reading, writer, &piece[..count], output),
+        Ok(count) => Ok(answer(reading, writer, &piece[..count], output)?),
         Err(_) => Err(Failure::Unread),
     }
 }
@@ -256,7 +262,7 @@ fn answer<W: Write>(
     writer: &mut W,
     piece: &[u8],
     output: &mut [u8],
-) -> Result<Turn, Failure>
+) -> io::Result<Turn>
     requires in_bounds { 48 ≤ length output.old }
     requires piece_len_bound { (length piece.now ≤ reading.left) × (reading.left ≤ limit) }
     ensures no_bytes { length piece.now ≡ 0 → IsOk result }
@@ -285,7 +291,7 @@ fn answer<W: Write>(
 }
 
 // Ends the input: answers a last line with bytes but no line feed.
-fn end<W: Write>(reading: Reading, writer: &mut W, output: &mut [u8]) -> Result<usize, Failure>
+fn end<W: Write>(reading: Reading, writer: &mut W, output: &mut [u8]) -> io::Result<usize>
     requires { 48 ≤ length output.old }
     ensures in_bounds { IfOk result (λ bytes. bytes ≤ length output.new) }
     ensures value { IfOk result (λ bytes. bytes ≡ length (answers reading.form (held reading.begun) (closing (held reading.begun)))) }
@@ -300,12 +306,7 @@ fn end<W: Write>(reading: Reading, writer: &mut W, output: &mut [u8]) -> Result<
 }
 
 // Hands over the answers of the lines that end in some bytes, all of them and from the start.
-fn write<W: Write>(
-    reading: Reading,
-    writer: &mut W,
-    bytes: &[u8],
-    put: &[u8],
-) -> Result<usize, Failure>
+fn write<W: Write>(reading: Reading, writer: &mut W, bytes: &[u8], put: &[u8]) -> io::Result<usize>
     requires { put.now ≡ answers reading.form (held reading.begun) bytes.now }
     ensures in_bounds { IfOk result (λ count. count ≤ length put.now) }
     ensures value { IfOk result (λ count. count ≡ length (answers reading.form (held reading.begun) bytes.now)) }
@@ -316,12 +317,10 @@ fn write<W: Write>(
 }
 
 // By itself, so that no other bytes are at hand here.
-fn handed_over<W: Write>(writer: &mut W, put: &[u8]) -> Result<usize, Failure>
+fn handed_over<W: Write>(writer: &mut W, put: &[u8]) -> io::Result<usize>
     ensures value { IfOk result (λ count. count ≡ length put.now) }
     ensures written { OnOk result (Appends (W.contents writer.old) (W.contents writer.new) put.now) }
 {
-    if writer.write_all(put).is_err() {
-        return Err(Failure::Unwritten);
-    }
+    writer.write_all(put)?;
     Ok(put.len())
 }
