@@ -111,7 +111,8 @@ def first(room, task):
     seeds, crate = task
     seed = os.path.join(seeds, crate)
     os.mkdir(seed)
-    rooms.fill(seed, rooms.below(crate) | {crate}, '.', rooms.LIBRARY, rooms.CHECKED)
+    rooms.fill(seed, rooms.below(crate) | {crate}, '.', rooms.LIBRARY)
+    rooms.copy(crate, seed, '.', rooms.CHECKED)
     return [] if checked(seed, crate, '--jobs', '1').is_proved else [f'{crate}: it is not proved as it stands']
 
 

@@ -23,7 +23,7 @@ def source(path):
 
 def prepare(room):
     """A copy of the kinds and positions, and of what they stand on, with one more crate, which knows them."""
-    rooms.fill(room, rooms.below('position') | {'position'}, '.', rooms.LIBRARY, rooms.CHECKED)
+    rooms.fill(room, rooms.below('position') | {'position'}, '.', rooms.LIBRARY)
     with open(os.path.join(room, 'crates.txt'), 'a', encoding='utf-8') as f:
         f.write(f'{CRATE}: kinds position\n')
     os.makedirs(os.path.join(room, 'crates', CRATE, 'src'))
