@@ -4,7 +4,7 @@
 
 use buckettin::{Read, Written};
 use std::io;
-use std::io::{BufReader, BufWriter, Write};
+use std::io::Write;
 
 fn shift<W: Write>(answers: &mut W, code: i64, latitude: i64, longitude: i64) -> io::Result<()> {
     let shift = buckettin::buckettin_shift(code, latitude, longitude);
@@ -153,12 +153,12 @@ fn turn<R: io::Read, W: Write>(questions: &mut R, answers: &mut W) -> io::Result
 
 // The count of turns is there to end: no input has so many.
 fn main(rt: HostRuntime) -> io::Result<()> {
-    let mut questions = BufReader::new(rt.alloc(), rt.reader())?;
-    let mut answers = BufWriter::new(rt.alloc(), io::writer(&rt))?;
+    let mut questions = rt.stdin();
+    let mut answers = rt.stdout();
     for _ in 0..u64::MAX {
         if !turn(&mut questions, &mut answers)? {
             break;
         }
     }
-    answers.flush()
+    Ok(())
 }

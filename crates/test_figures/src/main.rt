@@ -7,7 +7,7 @@ mod west;
 
 use kinds::Refusal;
 use std::io;
-use std::io::{BufReader, BufWriter, Read, Write};
+use std::io::{Read, Write};
 
 // A number over another, from 2 to 2^62: none below or above.
 fn quotient<W: Write>(answers: &mut W, n: i64, d: u64) -> io::Result<()> {
@@ -91,12 +91,12 @@ fn turn<R: Read, W: Write>(questions: &mut R, answers: &mut W) -> io::Result<boo
 
 // The count of turns is there to end: no input has so many.
 fn main(rt: HostRuntime) -> io::Result<()> {
-    let mut questions = BufReader::new(rt.alloc(), rt.reader())?;
-    let mut answers = BufWriter::new(rt.alloc(), io::writer(&rt))?;
+    let mut questions = rt.stdin();
+    let mut answers = rt.stdout();
     for _ in 0..u64::MAX {
         if !turn(&mut questions, &mut answers)? {
             break;
         }
     }
-    answers.flush()
+    Ok(())
 }

@@ -7,7 +7,7 @@ mod floats;
 use datum::{PointAnswer, ShiftAnswer, Shifts};
 use kinds::HeightAnswer;
 use std::io;
-use std::io::{BufReader, BufWriter, Read, Write};
+use std::io::{Read, Write};
 
 fn shifted<W: Write>(answers: &mut W, shifts: Shifts) -> io::Result<()> {
     test_show::three(
@@ -71,12 +71,12 @@ fn turn<R: Read, W: Write>(questions: &mut R, answers: &mut W) -> io::Result<boo
 
 // The count of turns is there to end: no input has so many.
 fn main(rt: HostRuntime) -> io::Result<()> {
-    let mut questions = BufReader::new(rt.alloc(), rt.reader())?;
-    let mut answers = BufWriter::new(rt.alloc(), io::writer(&rt))?;
+    let mut questions = rt.stdin();
+    let mut answers = rt.stdout();
     for _ in 0..u64::MAX {
         if !turn(&mut questions, &mut answers)? {
             break;
         }
     }
-    answers.flush()
+    Ok(())
 }
