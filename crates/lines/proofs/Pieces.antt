@@ -88,10 +88,6 @@ module _ (reading new : Reading) (bytes : List ℕ) (room n : ℕ) (is-n : n ≡
 
 -- ---- a piece that is answered up to a place, with h bytes handed over
 module _ (piece : List ℕ) (from : ℕ) {before mid : Reading} {h : ℕ} (a : Answered before (take from piece) mid h) where
-  -- at the end it is the whole piece
-  pub at_last : length piece ≤ from → Answered before piece mid h
-  at_last all = subst (λ (l : List ℕ). Answered before l mid h) (take_all from piece all) a
-
   -- n bytes of the rest are fed
   module _ (room n : ℕ) (is-n : n ≡ taken_of (take mid.left (take (length piece - from) (drop from piece))) room) where
     abbrev rest : List ℕ
@@ -114,10 +110,6 @@ module _ (piece : List ℕ) (from : ℕ) {before mid : Reading} {h : ℕ} (a : A
     -- as they are lent to be handed over
     lent_is : take (from + n - from) (drop from piece) ≡ take n rest
     lent_is = let e : from + n - from ≡ n = omega arith in ap (λ (k : ℕ). take k (drop from piece)) e ∙ ap (take n) (sym rest_is)
-
-    pub put_is : (buffer out : List ℕ) (put : ℕ) → put ≡ length (answers mid.form (held mid.begun) (take n rest)) → out ≡ answers mid.form (held mid.begun) (take n rest) ++ drop put buffer
-        → take put out ≡ answers mid.form (held mid.begun) (take (from + n - from) (drop from piece))
-    put_is buffer out put is-put is-out = at_start _ buffer out put is-put is-out ∙ ap (answers mid.form (held mid.begun)) (sym lent_is)
 
     pub onward : (new : Reading) (k : ℕ) → new ≡ after mid (take n rest) → k ≡ length (answers mid.form (held mid.begun) (take (from + n - from) (drop from piece)))
         → Answered before (take (from + n) piece) new (h + k)

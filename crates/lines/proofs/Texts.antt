@@ -1,30 +1,22 @@
 -- How long an output is, and what the arguments ask for. Assumes nothing.
-use mathlib.Core.Path.{◌≡◌, refl, sym, ap, ◌∙◌}
+use mathlib.Core.Path.{◌≡◌, refl, ap}
 use mathlib.Core.Bool.{Bool, ◌&&◌, cond}
 use mathlib.Core.List.{List, [], ◌∷◌, ◌++◌, flat_map}
-use Prim.Native.Nat.{ℕ, ◌+◌, ◌*◌, ◌<◌, ◌≤◌}
+use Prim.Native.Nat.{ℕ, ◌+◌, ◌*◌, ◌≤◌}
 use native.Mathlib.Omega.{arith}
 use lib.Dec.{eqb}
 use lib.ListN.{length, take, length-append, length-take}
 use lib.Pointwise.{pointwise}
-use borrow.Author.Tests.{lt-ltb, le-ltb}
+use borrow.Author.Tests.{le-ltb}
 use Rattle.kinds.specs.Bytes.{ascii}
 use Rattle.line.specs.declared.Form.{Form}
 use Rattle.line.specs.declared.Form.TheVariants.{Numbers, Waypoints}
 use Rattle.stream.specs.Stream.{printed, head, foot, ended, begun_after, last, lines, limit, output, answers}
 use Rattle.stream.proofs.Printing.{printed_short, flat_pieces, answers_short}
 use Rattle.lines.specs.Asked.{is_same, asked}
-use Rattle.lines.specs.Edges.{edge_text}
-use Rattle.lines.specs.declared.Edge.{Edge}
-use Rattle.lines.specs.declared.Edge.TheVariants.{Head, Foot}
 use Rattle.lines.specs.declared.Request.TheVariants.{Answers, Unknown}
 
 -- ---- what stands before the first line and after the last
--- with numbers nothing does
-pub nothing_at : (edge : Edge) → [] ≡ edge_text edge Numbers
-nothing_at Head = refl
-nothing_at Foot = refl
-
 head_short : (form : Form) → length (head form) ≤ 121
 head_short Numbers = omega arith
 head_short Waypoints = omega arith
@@ -67,8 +59,5 @@ as_compared (x ∷ xs) (y ∷ ys) = ap (λ (t : Bool). eqb x y && t) (as_compare
 
 -- ---- what is asked for
 module _ (words : ℕ) (next : List ℕ) where
-  pub none_asked : words < 2 → Answers Numbers ≡ asked words next
-  none_asked h = simp (lt-ltb words 2 h)
-
   pub word_asked : 2 ≤ words → {same : Bool} → same ≡ pointwise eqb next (ascii "--gpx") → cond (eqb words 2 && same) (Answers Waypoints) Unknown ≡ asked words next
   word_asked h is-same = simp (le-ltb words 2 h, as_compared next (ascii "--gpx"), is-same)

@@ -1,9 +1,8 @@
-use Rattle.std.proofs.Common.{◌≡◌, ◌∙◌, sym, ap, cond, Bool}
+use Rattle.std.proofs.Common.{◌∙◌, sym, ap, cond, Bool}
 use lib.Pointwise.{pointwise}
 use lib.Dec.{eqb}
-use Rattle.line.specs.declared.Form.TheVariants.{Numbers, Waypoints}
+use Rattle.line.specs.declared.Form.TheVariants.{Waypoints}
 use Rattle.lines.specs.declared.Request.TheVariants.{Answers, Unknown}
-use Rattle.lines.specs.Asked.{asked}
 use Rattle.lines.proofs.Texts.{word_asked}
 use Rattle.lines.proofs.asked.Goals as goal
 
