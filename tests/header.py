@@ -21,6 +21,7 @@ import pages
 import program
 import sheets
 import waypoints
+from check_page import squeezed
 from program import content
 
 HEADER = 'include/buckettin.h'
@@ -58,9 +59,9 @@ def exported(source):
 
 
 def functions(source):
-    """The public functions of a source by their names: parameters, answer and promise, and the body; spaces are squeezed."""
+    """The public functions of a source by their names: parameters, answer and promise, and the body, without their layout."""
     form = r'^pub (?:extern "C" )?fn (\w+)(\([^)]*\) -> \w+\n(?: .*\n)*)\{\n((?: .*\n)*)\}'
-    return {name: (' '.join(head.split()), ' '.join(body.split())) for name, head, body in re.findall(form, source, re.M)}
+    return {name: (squeezed(head), squeezed(body)) for name, head, body in re.findall(form, source, re.M)}
 
 
 def imported(source):
@@ -75,7 +76,7 @@ def handed_on(exports, calls):
     wrong += [] if len(here) == len(exported(exports)) == exports.count('no_mangle') else [f'{EXPORTS}: an export is not understood']
     wrong += [f'{EXPORTS}: {name} is of {module}, and {CALLS} does not know it' for module, name in sorted(imported(exports) - imported(calls))]
     for name, (head, body) in here.items():
-        passed = ', '.join(re.findall(r'(\w+): ', head[1:head.index(')')]))
+        passed = ','.join(re.findall(r'(\w+):', head[1:head.index(')')]))
         if name not in below or head != below[name][0] or body != f'buckettin::{name}({passed})':
             wrong.append(f'{EXPORTS}: {name} is not that of crate buckettin, with its parameters and its promise')
     return wrong

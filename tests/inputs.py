@@ -141,11 +141,11 @@ def is_right_on_stack():
 
 def has_no_heap():
     """Of the C library the program takes what starts and ends every program, and these, none of which allocates. It makes no
-    system call itself. The toolchain's library that gives the arguments names the last two."""
+    system call itself. The toolchain's library asks the last why a call failed."""
     objdump = ['x86_64-linux-gnu-objdump', '--no-show-raw-insn', '-T', '-d', COMMAND[-1]]
     listing = subprocess.run(objdump, capture_output=True, text=True, check=True).stdout
     imported = set(re.findall(r'\*UND\*.* (\w+)$', listing, re.M))
-    taken = {'read', 'write', 'memcpy', 'memmove', 'memset', 'open', '__errno_location'}
+    taken = {'read', 'write', 'memcpy', 'memmove', 'memset', '__errno_location'}
     return {'read', 'write'} <= imported <= STARTING | taken and 'syscall' not in listing
 
 
