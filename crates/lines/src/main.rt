@@ -1,8 +1,8 @@
 // The line program: answers each line of standard input on standard output, with numbers or, where it is called with `--gpx`, in a
-// GPX file of waypoints. Where reading fails, or writing does and no signal has ended it, it says so on standard error and stops;
-// where the limit ended the input, it says so there too. No contract says which bytes a descriptor gives and takes: those here say
-// what becomes of the bytes that stand in a buffer after a read, and how many bytes are handed over to be written for them; and of a
-// reader and a writer whose bytes are known, which bytes are read and written.
+// GPX file of waypoints. Where reading or writing fails, it says so on standard error and stops; where the limit ended the input, it
+// says so there too. No contract says which bytes a descriptor gives and takes: those here say what becomes of the bytes that stand
+// in a buffer after a read, and how many bytes are handed over to be written for them; and of a reader and a writer whose bytes are
+// known, that the output of those that were read is what was written.
 #![tactic(auto)]
 
 ghost use Rattle.std.specs.Prelude.{◌≡◌, ◌↔◌, ◌+◌, ◌<◌, ◌≤◌, length, take, Ok, IsOk, IfOk, OnOk, IsErr, IsErrOf};
