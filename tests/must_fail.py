@@ -177,7 +177,7 @@ def tries(found, at_once):
 def self_test(at_once):
     """Crate `whole` with wrong programs, of which none is found out; and with what shows nothing, each of which is: a right program in
     the place of a slip; a slip that does not compile; one after which a proof file names what is not there; one whose function fails
-    only because another that it calls does; a definition whose law stands. And a public function is said to have no slip."""
+    only because another that it calls does; a definition whose law stands. And its six functions, none of which has two slips here, are found out."""
     def slip(name, old, new, place='src/lib.rt', breaks=()):
         return slips.Slip('whole', 'test', name, 'of the test', list(breaks), [(place, old, new)])
 
@@ -192,8 +192,9 @@ def self_test(at_once):
         said = first(room, (seeds, 'whole')) or tried(room, (seeds, good[0]))
         log = checked(room, 'whole', '--jobs', '1')
         follows = not said and log.functions == {'size'} and bool(refused(log, good[0], {'rounded'}))
-    print(f'found out: {", ".join(seen)}{", caller" if follows else ""}')
-    return seen == [slip.name for slip in bad] and follows
+    few = [name for _, name, own in table(good, ['whole']) if len(own) < FEWEST]
+    print(f'found out: {", ".join(seen)}{", caller" if follows else ""}; too few slips: {", ".join(few)}')
+    return seen == [slip.name for slip in bad] and follows and sorted(few) == ['least', 'nearest', 'rounded', 'scaled', 'size', 'with_sign']
 
 
 def main():
