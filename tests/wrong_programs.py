@@ -42,7 +42,7 @@ REACHED = {
                        'comment', 'end_for'},
     'lines --gpx': {'at_edge', 'run', 'in_form'}, 'lines --gpy': {'asked'},
 }
-CHOOSER = 'one_of_many'
+CHOOSER, MAIN = 'one_of_many', 'main_of_one'
 MOST = 30_000                  # lines of sources that are built as one
 AT_ONCE = 2                    # programs that are built at a time: each takes a processor or two
 CASE = re.compile(r'^case=(\d+) (.*) proved=no$', re.M)
@@ -94,7 +94,7 @@ def copied(room, slip, name, end):
                 text = renamed(slips.text_of(os.path.join(to, place)), sorted(crates), end)
                 if place == 'main.rt':
                     os.remove(os.path.join(to, place))
-                    place, text = 'lib.rt', text.replace('\nfn main(', '\npub fn run(')
+                    place, text = 'lib.rt', text.replace('\nfn main(', f'\npub fn {MAIN}(')
                 with open(os.path.join(to, place), 'w', encoding='utf-8') as f:
                     f.write(text)
             deps = rooms.known()[crate][1]
@@ -106,7 +106,7 @@ def chooser(name, count):
     """The source of a program that runs one of so many copies, as the first two bytes of its input say."""
     head = slips.text_of(f'crates/{name}/src/main.rt').split('\nfn main(')[1].split('{')[0]
     otherwise, after = ('Ok(())', '') if '->' in head else ('()', '\n    Ok(())')
-    cases = ''.join(f'        {k} => {name}_{k}::run(rt),\n' for k in range(count))
+    cases = ''.join(f'        {k} => {name}_{k}::{MAIN}(rt),\n' for k in range(count))
     return f'''#![tactic(auto)]
 
 use std::io;
@@ -154,7 +154,7 @@ def became(work):
     """The same for each slip of a part; where they do not build as one, of each alone."""
     program, found = work
     (unedited, *told), said = ran(program, found)
-    if not unedited and len(found) > 1:
+    if not unedited and len(found) > 1 and ran(program, [])[0][0]:
         alone = [became((program, [slip])) for slip in found]
         return [alone[0][0][0], *(told[1] for told, _ in alone)], [said[0] for _, said in alone]
     return [unedited, *told], [said] * len(found)
