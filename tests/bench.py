@@ -1,15 +1,17 @@
 #!/usr/bin/env python3
 """How long each call of include/buckettin.h takes, beside the same in plain C, and a point beside C that is tuned for its code:
-python3 tests/bench.py [--held], where tests/archive has been run and x86_64-linux-gnu-gcc is there with a static C library.
+python3 tests/bench.py [--count] [--held], where tests/archive has been run and x86_64-linux-gnu-gcc is there with a static C
+library.
 
 Builds tests/bench/bench.c with the archive, with tests/bench/plain.c and with tests/bench/tuned.c, each compiled by itself, the
 last at -O3 and the others at -O2, and runs it. Prints, of each call, how many are answered in a second by the archive, by plain
-C and by tuned C, and how many times as long as each of these the archive takes; and, where qemu-x86_64 is there (Debian: qemu-user),
-how many instructions each takes, from its log. Tuned C has the shift and the geoid height of a point, and no other call.
+C and by tuned C, and how many times as long as each of these the archive takes; and with --count, and where an emulator runs the
+program, how many instructions each takes, from the log of qemu-x86_64 (Debian: qemu-user). Tuned C has the shift and the geoid
+height of a point, and no other call.
 
 It ends with an error where two answers differ, or where the program cannot be built or run. No time is held to a limit. With
---held the instructions are: it ends with an error where they cannot be counted, or where the archive takes more than LIMITS allow,
-and says of which calls.
+--held the instructions are, where they are counted: it ends with an error where the archive takes more than LIMITS allow, and
+says of which calls.
 """
 import os
 import shutil
@@ -56,9 +58,9 @@ def built(room, *words):
 
 
 def counting():
-    """The first words of a command that logs each instruction; none where the emulator is not there."""
+    """The first words of a command that logs each instruction."""
     if not shutil.which(program.EMULATOR):
-        return []
+        raise SystemExit(f'{program.EMULATOR} is not there, which counts the instructions: it is of Debian\'s qemu-user')
     told = subprocess.run([program.EMULATOR, '-h'], capture_output=True, text=True).stdout
     return [program.EMULATOR, next(flag for flag in STEPS if flag in told), *LOG]
 
@@ -103,15 +105,15 @@ def passed(name, counts):
 def main():
     with tempfile.TemporaryDirectory() as room:
         subprocess.run(built(room), check=True)
-        counted = instructions(built(room, *FEW)[-1]) if counting() else []
+        is_counted = '--count' in sys.argv or program.emulator()
+        counted = instructions(built(room, *FEW)[-1]) if is_counted else []
     if counted:
         print('\n' + head())
     for name, counts in counted:
         print(row(name, counts))
-    if '--held' in sys.argv:
+    if '--held' in sys.argv and counted:
         unknown = [f'{name}: has a limit, and is not counted' for name in LIMITS if name not in dict(counted)]
         wrong = [words for name, counts in counted for words in passed(name, counts)]
-        wrong += [] if counted else [f'{program.EMULATOR} is not there, which counts the instructions: it is of Debian\'s qemu-user']
         program.ended(unknown + wrong, 'every call is within its limits')
 
 

@@ -6,6 +6,7 @@ target/staticlib/libbuckettin.a, which C calls.
 That a division by a literal becomes a multiplication is the compiler's doing, and nothing proves it: so it is looked at.
 Floats are divided, once for each value, as document 01 has it.
 """
+import os
 import re
 import subprocess
 import sys
@@ -44,6 +45,8 @@ def idle(name, body):
 
 
 def main():
+    if not os.path.exists(PAGES):
+        raise SystemExit(f'{PAGES} is not there: rt ci makes it')
     pages, archive = functions(PAGES), functions(program.archive())
     wrong = missing(HOT, pages, PAGES) + missing(called(), archive, program.ARCHIVE)
     for name in HOT:

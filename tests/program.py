@@ -2,7 +2,6 @@
 qemu-x86_64 runs them. And how a test program is asked, and what it must print."""
 import os
 import platform
-import shutil
 import subprocess
 import sys
 
@@ -17,7 +16,8 @@ def content(path):
 
 def tools():
     """The toolchain's compiled parts."""
-    return os.path.join(os.path.dirname(os.path.dirname(os.path.realpath(shutil.which('rt')))), 'toolchain')
+    told = subprocess.run(['rt', 'doc'], capture_output=True, text=True, check=True).stdout
+    return os.path.join(os.path.dirname(told.strip()), 'toolchain')
 
 
 def emulator():
@@ -36,9 +36,10 @@ def proved(name):
 def loaded(path):
     """The command that runs a program that the machine's own loader starts; under the emulator the toolchain's does, with its own C
     library."""
+    if not emulator():
+        return [path]
     library = os.path.join(tools(), 'lib')
-    words = [os.path.join(library, 'ld-linux-x86-64.so.2'), '--library-path', library]
-    return [*emulator(), *words, path] if emulator() else [path]
+    return emulator() + [os.path.join(library, 'ld-linux-x86-64.so.2'), '--library-path', library, path]
 
 
 # A question on standard input, as crates/test_ask reads it, is a letter, and then its parts.
