@@ -7,7 +7,6 @@ that it turned, and stops before it writes where two names would fall together.
 """
 import collections
 import glob
-import json
 import os
 import re
 import sys
@@ -29,6 +28,8 @@ AGAIN = [
     ('crates/(sheet/proofs/Points|datum/proofs/Demands|floating/proofs/Demands)[.]antt', 'is_code', 'coded'),
     ('crates/whole/proofs/Digits[.]antt', 'is_digit', 'is_digit_lem'),
 ]
+# names of two things in different crates, of which no file brings in both
+APART = {'all_digits', 'in_order', 'in_turn', 'is_same'}
 TOKEN = re.compile(r'--[^\n]*|"(?:\\.|[^"\\])*"|[^\s(){}\[\];,."«»`]+|.', re.S)
 DECLARED = re.compile(r'^( *)(?:abbrev |unfoldable )?(?:pub )?(?:(record|data|ruleset|module|mod|use|open) )?([^\s(){}:.,;|]+)((?: [^:\n]*)?:)(?: |$)', re.M)
 
@@ -103,12 +104,11 @@ def main():
                 found[name] = snake(name)
         alone[path] = found
     used = collections.Counter(token for path in shared for token in tokens(text[path]))
-    together = {new: old for new, old in where.items() if len(old) > 1 or (new in used and new not in names) or new in imported}
+    together = {new: old for new, old in where.items() if new not in APART and (len(old) > 1 or (new in used and new not in names) or new in imported)}
     if together:
         for new, old in sorted(together.items()):
             print(f'falls together: {new}: {sorted(old)}', file=sys.stderr)
-        if '--force' not in sys.argv:
-            sys.exit(1)
+        sys.exit(1)
     for path in shared + own:
         both = {**names, **alone.get(path, {})}
         new = turned(text[path], both, fields)
@@ -120,7 +120,6 @@ def main():
                       for k, part in enumerate(parts))
         if new != content:
             open(path, 'w').write(new)
-    json.dump(names, open('/tmp/names-turned.json', 'w'), ensure_ascii=False, indent=0, sort_keys=True)
     for old, new in sorted(names.items()):
         print(f'{old} -> {new}')
 
