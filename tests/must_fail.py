@@ -9,11 +9,9 @@ the must-fail edits alone, several side by side, and reads what the prover says.
 
 An edit holds several slips (tests/slips.py), and rt ci tries them together; so it would not see one that is refused in none. Here a
 slip of a program needs an error under the proof of the function that it is in, or of one that names the constant that it changes; a
-slip of a definition or a computed test, in the law that it names. Where a slip changes the text that the check names a goal by, an
-answer of the function cites a name that is gone: such slips are listed, since there the name hides what the goal would say
-(docs/PORT.md). An error does not count that only says that something else is not proved: a function fails so where one that it calls
-was refused. A slip that does not compile, that makes a file unreadable, or a
-proof file name what is not there, shows nothing, so no other error may be about a name or the text. The crate itself must be proved. That
+slip of a definition or a computed test, in the law that it names. An error does not count that only says that something else is not
+proved: a function fails so where one that it calls was refused. A slip that does not compile, that makes a file unreadable, or a
+proof file name what is not there, shows nothing, so no error may be about a name or the text. The crate itself must be proved. That
 a program with a slip is wrong, and not only another than the one proved, tests/wrong_programs.py shows by running it.
 
 It begins with what rt made in each crate's folder (tests/archive and ./lines have rt make it), and proves there what is not.
@@ -33,8 +31,6 @@ UNFIT = re.compile(
     r'is not in scope(?! here)|has no field|has no `|is no name|is not a module|can be named from here|operand is missing|expected the end'
     r'|cannot continue|wrong number of|expected type `goal\.')
 IS_SHOWN = '--slip' in sys.argv
-# the name of a goal, or of a step on the way to it, which the check makes of the text of the code: an answer that cites it falls with it
-RENAMED = re.compile(r'module `\S+\.(?:Goals|Given)` has no `|`\S+\.Lts\.\S+` has no field')
 FEWEST = 2                     # slips of its own that a public function has
 # libraries of which none is asked: of the test programs alone, which are not sold; and the exports, which do nothing but call
 # crate `buckettin` (tests/header.py)
@@ -61,14 +57,10 @@ class Said:
         verdict = [m for m in VERDICT.finditer(said)][-1:]
         self.is_told = bool(verdict)
         self.is_proved = any(m[1] == 'proved' or m[2] and m[2] == m[3] for m in verdict)
-        self.unfit, self.renamed = REFUSED.findall(said), set()
+        self.unfit = REFUSED.findall(said)
         self.laws, under = set(), set(SEARCHED.findall(said))
         for m in ERROR.finditer(said):
             place = os.path.normpath(m[1])
-            answered = re.fullmatch(r'proofs/(.+)/(?:Answers|Invariants)\.antt', place)
-            if answered and RENAMED.search(m[0]):
-                self.renamed.add(answered[1].replace('/', '::'))
-                continue
             head = m[0].split('\n')[0]
             if UNFIT.search(head) or not m[4] and not FOLLOWS.search(head):
                 self.unfit.append(head)
@@ -124,10 +116,6 @@ def first(room, task):
     return [] if checked(seed, crate, '--jobs', '1').is_proved else [f'{crate}: it is not proved as it stands']
 
 
-# the slips after which an answer cites the name of a goal that is gone, and that have no other error of their own
-by_name = set()
-
-
 def refused(said, slip, places):
     """What is wrong with a slip, by what was said of it."""
     name = f'{slip.crate}/{slip.edit}: {slip.name}'
@@ -135,9 +123,7 @@ def refused(said, slip, places):
         return [f'{name} does not fit the text: {said.unfit[0][:200]}']
     if said.is_proved or not said.is_told:
         return [f'{name}: the crate is {"proved all the same" if said.is_proved else "neither proved nor refused"}']
-    own = places & (said.laws if slip.breaks else said.functions | said.renamed)
-    if own and not own & (said.laws if slip.breaks else said.functions):
-        by_name.add(name)
+    own = places & (said.laws if slip.breaks else said.functions)
     return [] if own else [f'{name} has no error of its own in {", ".join(map(str, sorted(places)))}']
 
 
@@ -190,9 +176,8 @@ def tries(found, at_once):
 
 def self_test(at_once):
     """Crate `whole` with wrong programs, of which none is found out; and with what shows nothing, each of which is: a right program in
-    the place of a slip; a slip that does not compile; one whose function fails only because another that it calls does; a definition
-    whose law stands. One that takes away a name that an answer cites is listed. And its six functions, none of which has two slips
-    here, are found out."""
+    the place of a slip; a slip that does not compile; one after which a proof file names what is not there; one whose function fails
+    only because another that it calls does; a definition whose law stands. And its six functions, none of which has two slips here, are found out."""
     def slip(name, old, new, place='src/lib.rt', breaks=()):
         return slips.Slip('whole', 'test', name, 'of the test', list(breaks), [(place, old, new)])
 
@@ -200,16 +185,16 @@ def self_test(at_once):
     good = [slip('size', *size), slip('answered', 'q * u + nearest', 'r * u + nearest'),
             slip('law', *law, 'specs/Round.antt', ['examples.five_halves'])]
     bad = [slip('right', 'if a < b { a } else { b }', 'if a <= b { a } else { b }'), slip('text', 'q * u + nearest', 'q * w + nearest'),
+           slip('name', 'q * u + nearest(r * u, Parts::DIVISOR)', 'q * u + (r * u + Parts::DIVISOR / 2) / Parts::DIVISOR'),
            slip('other-law', *law, 'specs/Round.antt', ['same_below_zero'])]
-    named = slip('name', 'q * u + nearest(r * u, Parts::DIVISOR)', 'q * u + (r * u + Parts::DIVISOR / 2) / Parts::DIVISOR')
-    seen = [re.search(r'whole/test: ([\w-]+)', line)[1] for line in tries(good + bad + [named], at_once)]
+    seen = [re.search(r'whole/test: ([\w-]+)', line)[1] for line in tries(good + bad, at_once)]
     with tempfile.TemporaryDirectory() as seeds, tempfile.TemporaryDirectory() as room:
         said = first(room, (seeds, 'whole')) or tried(room, (seeds, good[0]))
         log = checked(room, 'whole', '--jobs', '1')
         follows = not said and log.functions == {'size'} and bool(refused(log, good[0], {'rounded'}))
     few = [name for _, name, own in table(good, ['whole']) if len(own) < FEWEST]
     print(f'found out: {", ".join(seen)}{", caller" if follows else ""}; too few slips: {", ".join(few)}')
-    return seen == [slip.name for slip in bad] and by_name == {'whole/test: name'} and follows and sorted(few) == ['least', 'nearest', 'rounded', 'scaled', 'size', 'with_sign']
+    return seen == [slip.name for slip in bad] and follows and sorted(few) == ['least', 'nearest', 'rounded', 'scaled', 'size', 'with_sign']
 
 
 def main():
@@ -233,7 +218,6 @@ def main():
         print(f'{crate:10} {name:26}{", ".join(own)}')
         if len(own) < FEWEST:
             wrong.append(f'{crate}: {name} has {len(own)} slips of its own, and a public function has {FEWEST} at least')
-    print('\n'.join(f'by the name of a goal alone: {words}' for words in sorted(by_name)))
     print('\n'.join(wrong) or f'must-fail: {len(names)} slips in {len(edits)} edits, each with an error of its own')
     return not wrong and bool(every)
 

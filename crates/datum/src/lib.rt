@@ -170,7 +170,8 @@ fn located(datum: Datum, latitude: i64, longitude: i64) -> LocalPositionAnswer
         return LocalPositionAnswer::Refused(Refusal::Range);
     };
     let frame = datum.frame();
-    if frame.holds(position) {
+    let is_inside = frame.holds(position);
+    if is_inside {
         LocalPositionAnswer::Gives(position)
     } else {
         LocalPositionAnswer::Refused(Refusal::Area)

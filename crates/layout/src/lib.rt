@@ -41,6 +41,7 @@ const DATUMS: usize = SERIAL;
 pub const CODES: usize = DATUMS + 1;
 
 // Tests the serial, and then the rest but for the points' codes.
+#[tactic(auto, using(crate::proofs::Reading::serial_is, crate::proofs::Reading::same_bits, crate::proofs::Reading::other_bits, crate::proofs::Reading::serial_cut, crate::proofs::Reading::serial_zero, crate::proofs::Reading::serial_foreign, crate::proofs::Reading::serial_own))]
 pub fn read(unit: i64, sheet: &[u8]) -> LayoutAnswer
     ensures { layout_answer result ≡ read_of unit sheet.now }
 {

@@ -42,6 +42,7 @@ fn wide(byte: u8) -> u32
 }
 
 // The number of which the four bytes are the two's complement.
+#[tactic(auto, using(crate::proofs::Numbers::signed_low, crate::proofs::Numbers::signed_high))]
 pub fn signed(n: u32) -> i64
     ensures { result ≡ signed n }
 {
@@ -64,6 +65,7 @@ pub fn in_four(n: u32) -> [u8; 4]
 }
 
 // A signed number in four bytes, as two's complement.
+#[tactic(auto, using(crate::proofs::Numbers::raised_is, crate::proofs::Numbers::same_is))]
 pub fn in_four_signed(n: i32) -> [u8; 4]
     ensures { result ≡ in_bytes 4 (complement n) }
 {

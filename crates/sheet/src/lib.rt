@@ -54,7 +54,8 @@ fn all_listed(body: &[u8], points: usize, listed: [bool; 256]) -> bool
 {
     let mut i = 0;
     while i < points {
-        if !listed[body[i * layout::POINT] as usize] {
+        let is_listed = listed[body[i * layout::POINT] as usize];
+        if !is_listed {
             return false;
         }
         i += 1;

@@ -23,17 +23,17 @@ module _ (page : Page) (latitude longitude p q : ℤ) (told : ranged latitude lo
   box f framed e h =
       sym (e ∙ (λ i. enclosed (framed i).south (framed i).north (framed i).west (framed i).east (sym made.1 i).0 (sym made.1 i).1)) ∙ h
 
-pub returns-then-holds : goal.returns-then-holds
-returns-then-holds c =
+pub returns-then-is_inside : goal.returns-then-is_inside
+returns-then-is_inside c =
     let page = datum_page c.args.datum in
     let told = positioned ranged c.ranges.latitude c.ranges.longitude c.new.result c.new.ensures c.in-Gives.is in
     let m = made page c.args.latitude c.args.longitude _ _ told in
     ap gives (sym m.1)
-    ∙ sym (in_box_lem page c.args.latitude c.args.longitude m.0 (box page c.args.latitude c.args.longitude _ _ told _ c.frame-frame.ensures c.holds.ensures c.if-holds.true))
+    ∙ sym (in_box_lem page c.args.latitude c.args.longitude m.0 (box page c.args.latitude c.args.longitude _ _ told _ c.frame-frame.ensures c.holds-is_inside.ensures c.if-is_inside.true))
 
-pub returns-else-holds : goal.returns-else-holds
-returns-else-holds c =
+pub returns-else-is_inside : goal.returns-else-is_inside
+returns-else-is_inside c =
     let page = datum_page c.args.datum in
     let told = positioned ranged c.ranges.latitude c.ranges.longitude c.new.result c.new.ensures c.in-Gives.is in
     let m = made page c.args.latitude c.args.longitude _ _ told in
-    sym (out_of_box page c.args.latitude c.args.longitude m.0 (box page c.args.latitude c.args.longitude _ _ told _ c.frame-frame.ensures c.holds.ensures c.if-holds.false))
+    sym (out_of_box page c.args.latitude c.args.longitude m.0 (box page c.args.latitude c.args.longitude _ _ told _ c.frame-frame.ensures c.holds-is_inside.ensures c.if-is_inside.false))

@@ -2,9 +2,9 @@ use Rattle.std.proofs.Common.{sym, ◌∙◌, arith}
 use Rattle.sheet.proofs.Points.{flag_missing, flag_found, flags_end}
 use Rattle.sheet.proofs.all_listed.Goals as goal
 
-pub returns-then-not-listed-body : goal.returns-then-not-listed-body
-returns-then-not-listed-body c =
-    flag_missing c.args.listed c.args.points c.loop-i.i c.args.body.now c.loop-i-test.true c.requires (sym c.if-not-listed-body.true)
+pub returns-then-not-is_listed : goal.returns-then-not-is_listed
+returns-then-not-is_listed c =
+    flag_missing c.args.listed c.args.points c.loop-i.i c.args.body.now c.loop-i-test.true c.requires (sym c.if-not-is_listed.true)
     ∙ c.loop-i.invariant.rest
 
 pub loop-i-preserved : goal.loop-i-preserved
@@ -13,7 +13,7 @@ loop-i-preserved c =
     record {
       within = omega (arith, test);
       rest =
-          flag_found c.args.listed c.args.points c.loop-i.i c.args.body.now test c.requires (sym c.if-not-listed-body.false)
+          flag_found c.args.listed c.args.points c.loop-i.i c.args.body.now test c.requires (sym c.if-not-is_listed.false)
           ∙ c.loop-i.invariant.rest;
     }
 
