@@ -9,6 +9,8 @@ use lib.Dec.{eqb}
 use borrow.Author.Tests.{eq-eqb}
 use Rattle.whole.proofs.Bools.{both}
 use Rattle.kinds.specs.Answer.{Answer, gives, refused, provided, Test, ◌else◌, in_order, AllHold, FirstFails, following, refusal_of, number_of}
+use Rattle.std.specs.Prelude.{Result, Ok, Err}
+use Rattle.kinds.specs.Cases.{answered}
 use Rattle.kinds.specs.declared.Refusal.{Refusal}
 use Rattle.kinds.specs.declared.Refusal.TheVariants.{Length, Kind, Range, Code, Family, Area, Room, Foreign, Sheet}
 
@@ -172,14 +174,18 @@ number_back Sheet = refl
 pub same_refusal : (r s : Refusal) → number_of r ≡ number_of s → r ≡ s
 same_refusal r s h = sym (number_back r) ∙ ap refusal h ∙ number_back s
 
--- an enum E with the cases yes and no, of which `said` speaks
-module _ {E A : Type 0} (yes : A → E) (no : Refusal → E) where
-  abbrev pub rebuilt : Answer A → E
-  rebuilt (gives v) = yes v
-  rebuilt (refused n) = no (refusal n)
+-- a result by what it says, where `made` makes the value of what `says` says of it
+module _ {T A : Type 0} (says : T → A) (made : A → T) (back : (x : T) → made (says x) ≡ x) where
+  abbrev rebuilt : Answer A → Result T Refusal
+  rebuilt (gives v) = Ok (made v)
+  rebuilt (refused n) = Err (refusal n)
 
-  pub determined : (said : E → Answer A) → ((e : E) → rebuilt (said e) ≡ e) → (a b : E) → said a ≡ said b → a ≡ b
-  determined said back a b h = sym (back a) ∙ ap rebuilt h ∙ back b
+  again : (r : Result T Refusal) → rebuilt (answered says r) ≡ r
+  again (Ok x) = ap Ok (back x)
+  again (Err r) = ap Err (number_back r)
+
+  pub determined : (a b : Result T Refusal) → answered says a ≡ answered says b → a ≡ b
+  determined a b h = sym (again a) ∙ ap rebuilt h ∙ again b
 
 -- ---- 0 is the number of no refusal
 -- an answer whose refusals are above 0 has a value where its number is 0

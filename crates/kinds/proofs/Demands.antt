@@ -6,6 +6,7 @@ use mathlib.Core.Logic.{◌↔◌, ◌⊎◌, inl, inr, ⊎_elim}
 use Prim.Native.Nat.{ℕ, ◌≤◌, ◌<◌}
 use native.Mathlib.Omega.{arith}
 use lib.Dec.{leb}
+use Rattle.std.specs.Prelude.{Result}
 use lib.IntN.{ℤ, pos, neg_ℤ, ◌*ℤ◌}
 use lib.ListN.{length, take, drop, length-append, length-drop}
 use lib.Seq.{take-append_seam, drop-append_seam}
@@ -16,29 +17,15 @@ use Rattle.kinds.specs.Cases.{local_latitude, local_longitude, local_position, w
 use Rattle.kinds.specs.Kinds.{converted}
 use Rattle.kinds.specs.declared.Wgs84Latitude.{Wgs84Latitude}
 use Rattle.kinds.specs.declared.Wgs84Longitude.{Wgs84Longitude}
-use Rattle.kinds.specs.declared.AngleShift as Shift
-use Rattle.kinds.specs.declared.Height as Tall
+use Rattle.kinds.specs.declared.Wgs84Position.{Wgs84Position}
+use Rattle.kinds.specs.declared.LocalLatitude.{LocalLatitude}
+use Rattle.kinds.specs.declared.LocalLongitude.{LocalLongitude}
+use Rattle.kinds.specs.declared.LocalPosition.{LocalPosition}
+use Rattle.kinds.specs.declared.AngleShift.{AngleShift}
+use Rattle.kinds.specs.declared.Height.{Height}
 use Rattle.kinds.specs.declared.Refusal.{Refusal}
 use Rattle.kinds.specs.declared.Refusal.TheVariants.{Length, Kind, Range, Code, Family, Area, Room, Foreign, Sheet}
-use Rattle.kinds.specs.declared.LocalLatitudeAnswer.{LocalLatitudeAnswer}
-use Rattle.kinds.specs.declared.LocalLatitudeAnswer.TheVariants as LocalLatitude
-use Rattle.kinds.specs.declared.LocalLongitudeAnswer.{LocalLongitudeAnswer}
-use Rattle.kinds.specs.declared.LocalLongitudeAnswer.TheVariants as LocalLongitude
-use Rattle.kinds.specs.declared.LocalPositionAnswer.{LocalPositionAnswer}
-use Rattle.kinds.specs.declared.LocalPositionAnswer.TheVariants as LocalPosition
-use Rattle.kinds.specs.declared.Wgs84LatitudeAnswer.{Wgs84LatitudeAnswer}
-use Rattle.kinds.specs.declared.Wgs84LatitudeAnswer.TheVariants as Latitude84
-use Rattle.kinds.specs.declared.Wgs84LongitudeAnswer.{Wgs84LongitudeAnswer}
-use Rattle.kinds.specs.declared.Wgs84LongitudeAnswer.TheVariants as Longitude84
-use Rattle.kinds.specs.declared.Wgs84PositionAnswer.{Wgs84PositionAnswer}
-use Rattle.kinds.specs.declared.Wgs84PositionAnswer.TheVariants as Position84
-use Rattle.kinds.specs.declared.AngleShiftAnswer.{AngleShiftAnswer}
-use Rattle.kinds.specs.declared.AngleShiftAnswer.TheVariants as AngleShift
-use Rattle.kinds.specs.declared.HeightAnswer.{HeightAnswer}
-use Rattle.kinds.specs.declared.HeightAnswer.TheVariants as Height
-use Rattle.kinds.specs.declared.WrittenAnswer.{WrittenAnswer}
-use Rattle.kinds.specs.declared.WrittenAnswer.TheVariants as Written
-use Rattle.kinds.proofs.Answers.{not_both, same_value, passed, failed, all_held, held, first_or_behind, first_failed, fails, number_back, same_refusal, rebuilt, determined}
+use Rattle.kinds.proofs.Answers.{not_both, same_value, passed, failed, all_held, held, first_or_behind, first_failed, fails, same_refusal, determined}
 
 -- ---- 'Refusal numbers'
 -- no two refusals have one number
@@ -132,78 +119,36 @@ pub wgs84_longitude_by_number : (a b : Wgs84Longitude) → a.0 ≡ b.0 → a ≡
 wgs84_longitude_by_number a b h = ap (λ (x : ℤ). record { 0 = x }) h
 
 -- and so are two shifts of an angle, and two heights
-pub angle_shift_by_number : (a b : Shift.AngleShift) → a.0 ≡ b.0 → a ≡ b
+pub angle_shift_by_number : (a b : AngleShift) → a.0 ≡ b.0 → a ≡ b
 angle_shift_by_number a b h = ap (λ (x : ℤ). record { 0 = x }) h
 
-pub height_by_number : (a b : Tall.Height) → a.0 ≡ b.0 → a ≡ b
+pub height_by_number : (a b : Height) → a.0 ≡ b.0 → a ≡ b
 height_by_number a b h = ap (λ (x : ℤ). record { 0 = x }) h
 
--- two answers that say the same are the same
-pub local_latitude_determined : (a b : LocalLatitudeAnswer) → local_latitude a ≡ local_latitude b → a ≡ b
-local_latitude_determined = determined (λ x. LocalLatitude.Gives (record { 0 = x })) LocalLatitude.Refused local_latitude back
-  where
-    back : (e : LocalLatitudeAnswer) → rebuilt (λ x. LocalLatitude.Gives (record { 0 = x })) LocalLatitude.Refused (local_latitude e) ≡ e
-    back (LocalLatitude.Gives x) = refl
-    back (LocalLatitude.Refused r) = ap LocalLatitude.Refused (number_back r)
+-- two results that say the same are the same
+pub local_latitude_determined : (a b : Result LocalLatitude Refusal) → local_latitude a ≡ local_latitude b → a ≡ b
+local_latitude_determined = determined (λ x. x.0) (λ n. record { 0 = n }) (λ _. refl)
 
-pub local_longitude_determined : (a b : LocalLongitudeAnswer) → local_longitude a ≡ local_longitude b → a ≡ b
-local_longitude_determined = determined (λ x. LocalLongitude.Gives (record { 0 = x })) LocalLongitude.Refused local_longitude back
-  where
-    back : (e : LocalLongitudeAnswer) → rebuilt (λ x. LocalLongitude.Gives (record { 0 = x })) LocalLongitude.Refused (local_longitude e) ≡ e
-    back (LocalLongitude.Gives x) = refl
-    back (LocalLongitude.Refused r) = ap LocalLongitude.Refused (number_back r)
+pub local_longitude_determined : (a b : Result LocalLongitude Refusal) → local_longitude a ≡ local_longitude b → a ≡ b
+local_longitude_determined = determined (λ x. x.0) (λ n. record { 0 = n }) (λ _. refl)
 
-pub local_position_determined : (a b : LocalPositionAnswer) → local_position a ≡ local_position b → a ≡ b
-local_position_determined = determined yes LocalPosition.Refused local_position back
-  where
-    yes : ℤ × ℤ → LocalPositionAnswer
-    yes p = LocalPosition.Gives (record { latitude = record { 0 = p.0 }; longitude = record { 0 = p.1 } })
+pub local_position_determined : (a b : Result LocalPosition Refusal) → local_position a ≡ local_position b → a ≡ b
+local_position_determined = determined (λ p. (p.latitude.0, p.longitude.0)) (λ n. record { latitude = record { 0 = n.0 }; longitude = record { 0 = n.1 } }) (λ _. refl)
 
-    back : (e : LocalPositionAnswer) → rebuilt yes LocalPosition.Refused (local_position e) ≡ e
-    back (LocalPosition.Gives p) = refl
-    back (LocalPosition.Refused r) = ap LocalPosition.Refused (number_back r)
+pub wgs84_latitude_determined : (a b : Result Wgs84Latitude Refusal) → wgs84_latitude a ≡ wgs84_latitude b → a ≡ b
+wgs84_latitude_determined = determined (λ x. x.0) (λ n. record { 0 = n }) (λ _. refl)
 
-pub wgs84_latitude_determined : (a b : Wgs84LatitudeAnswer) → wgs84_latitude a ≡ wgs84_latitude b → a ≡ b
-wgs84_latitude_determined = determined (λ x. Latitude84.Gives (record { 0 = x })) Latitude84.Refused wgs84_latitude back
-  where
-    back : (e : Wgs84LatitudeAnswer) → rebuilt (λ x. Latitude84.Gives (record { 0 = x })) Latitude84.Refused (wgs84_latitude e) ≡ e
-    back (Latitude84.Gives x) = refl
-    back (Latitude84.Refused r) = ap Latitude84.Refused (number_back r)
+pub wgs84_longitude_determined : (a b : Result Wgs84Longitude Refusal) → wgs84_longitude a ≡ wgs84_longitude b → a ≡ b
+wgs84_longitude_determined = determined (λ x. x.0) (λ n. record { 0 = n }) (λ _. refl)
 
-pub wgs84_longitude_determined : (a b : Wgs84LongitudeAnswer) → wgs84_longitude a ≡ wgs84_longitude b → a ≡ b
-wgs84_longitude_determined = determined (λ x. Longitude84.Gives (record { 0 = x })) Longitude84.Refused wgs84_longitude back
-  where
-    back : (e : Wgs84LongitudeAnswer) → rebuilt (λ x. Longitude84.Gives (record { 0 = x })) Longitude84.Refused (wgs84_longitude e) ≡ e
-    back (Longitude84.Gives x) = refl
-    back (Longitude84.Refused r) = ap Longitude84.Refused (number_back r)
+pub wgs84_position_determined : (a b : Result Wgs84Position Refusal) → wgs84_position a ≡ wgs84_position b → a ≡ b
+wgs84_position_determined = determined (λ p. (p.latitude.0, p.longitude.0)) (λ n. record { latitude = record { 0 = n.0 }; longitude = record { 0 = n.1 } }) (λ _. refl)
 
-pub wgs84_position_determined : (a b : Wgs84PositionAnswer) → wgs84_position a ≡ wgs84_position b → a ≡ b
-wgs84_position_determined = determined yes Position84.Refused wgs84_position back
-  where
-    yes : ℤ × ℤ → Wgs84PositionAnswer
-    yes p = Position84.Gives (record { latitude = record { 0 = p.0 }; longitude = record { 0 = p.1 } })
+pub angle_shift_determined : (a b : Result AngleShift Refusal) → angle_shift a ≡ angle_shift b → a ≡ b
+angle_shift_determined = determined (λ x. x.0) (λ n. record { 0 = n }) (λ _. refl)
 
-    back : (e : Wgs84PositionAnswer) → rebuilt yes Position84.Refused (wgs84_position e) ≡ e
-    back (Position84.Gives p) = refl
-    back (Position84.Refused r) = ap Position84.Refused (number_back r)
+pub height_determined : (a b : Result Height Refusal) → height a ≡ height b → a ≡ b
+height_determined = determined (λ x. x.0) (λ n. record { 0 = n }) (λ _. refl)
 
-pub angle_shift_determined : (a b : AngleShiftAnswer) → angle_shift a ≡ angle_shift b → a ≡ b
-angle_shift_determined = determined (λ x. AngleShift.Gives (record { 0 = x })) AngleShift.Refused angle_shift back
-  where
-    back : (e : AngleShiftAnswer) → rebuilt (λ x. AngleShift.Gives (record { 0 = x })) AngleShift.Refused (angle_shift e) ≡ e
-    back (AngleShift.Gives x) = refl
-    back (AngleShift.Refused r) = ap AngleShift.Refused (number_back r)
-
-pub height_determined : (a b : HeightAnswer) → height a ≡ height b → a ≡ b
-height_determined = determined (λ x. Height.Gives (record { 0 = x })) Height.Refused height back
-  where
-    back : (e : HeightAnswer) → rebuilt (λ x. Height.Gives (record { 0 = x })) Height.Refused (height e) ≡ e
-    back (Height.Gives x) = refl
-    back (Height.Refused r) = ap Height.Refused (number_back r)
-
-pub written_determined : (a b : WrittenAnswer) → written a ≡ written b → a ≡ b
-written_determined = determined Written.Gives Written.Refused written back
-  where
-    back : (e : WrittenAnswer) → rebuilt Written.Gives Written.Refused (written e) ≡ e
-    back (Written.Gives x) = refl
-    back (Written.Refused r) = ap Written.Refused (number_back r)
+pub written_determined : (a b : Result ℕ Refusal) → written a ≡ written b → a ≡ b
+written_determined = determined (λ n. n) (λ n. n) (λ _. refl)

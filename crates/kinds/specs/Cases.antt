@@ -1,58 +1,49 @@
--- What each case of an answer says, in document 01's numbers: the value, or the number of the refusal.
-use Rattle.std.specs.Prelude.{ℕ, ℤ}
+-- What the result of a call says, in document 01's numbers: the value, or the number of the refusal.
+use Rattle.std.specs.Prelude.{ℕ, ℤ, Result, Ok, Err}
 use Rattle.kinds.specs.Answer.{Answer, gives, refused, number_of}
-use Rattle.kinds.specs.declared.LocalLatitudeAnswer.{LocalLatitudeAnswer}
-use Rattle.kinds.specs.declared.LocalLatitudeAnswer.TheVariants as LocalLatitude
-use Rattle.kinds.specs.declared.LocalLongitudeAnswer.{LocalLongitudeAnswer}
-use Rattle.kinds.specs.declared.LocalLongitudeAnswer.TheVariants as LocalLongitude
-use Rattle.kinds.specs.declared.LocalPositionAnswer.{LocalPositionAnswer}
-use Rattle.kinds.specs.declared.LocalPositionAnswer.TheVariants as LocalPosition
-use Rattle.kinds.specs.declared.Wgs84LatitudeAnswer.{Wgs84LatitudeAnswer}
-use Rattle.kinds.specs.declared.Wgs84LatitudeAnswer.TheVariants as Wgs84Latitude
-use Rattle.kinds.specs.declared.Wgs84LongitudeAnswer.{Wgs84LongitudeAnswer}
-use Rattle.kinds.specs.declared.Wgs84LongitudeAnswer.TheVariants as Wgs84Longitude
-use Rattle.kinds.specs.declared.Wgs84PositionAnswer.{Wgs84PositionAnswer}
-use Rattle.kinds.specs.declared.Wgs84PositionAnswer.TheVariants as Wgs84Position
-use Rattle.kinds.specs.declared.AngleShiftAnswer.{AngleShiftAnswer}
-use Rattle.kinds.specs.declared.AngleShiftAnswer.TheVariants as AngleShift
-use Rattle.kinds.specs.declared.HeightAnswer.{HeightAnswer}
-use Rattle.kinds.specs.declared.HeightAnswer.TheVariants as Height
-use Rattle.kinds.specs.declared.WrittenAnswer.{WrittenAnswer}
-use Rattle.kinds.specs.declared.WrittenAnswer.TheVariants as Written
+use Rattle.kinds.specs.declared.Refusal.{Refusal}
+use Rattle.kinds.specs.declared.LocalLatitude.{LocalLatitude}
+use Rattle.kinds.specs.declared.LocalLongitude.{LocalLongitude}
+use Rattle.kinds.specs.declared.LocalPosition.{LocalPosition}
+use Rattle.kinds.specs.declared.Wgs84Latitude.{Wgs84Latitude}
+use Rattle.kinds.specs.declared.Wgs84Longitude.{Wgs84Longitude}
+use Rattle.kinds.specs.declared.Wgs84Position.{Wgs84Position}
+use Rattle.kinds.specs.declared.AngleShift.{AngleShift}
+use Rattle.kinds.specs.declared.Height.{Height}
 
-abbrev pub local_latitude : LocalLatitudeAnswer → Answer ℤ
-local_latitude (LocalLatitude.Gives x) = gives x.0
-local_latitude (LocalLatitude.Refused r) = refused (number_of r)
+-- of a value that is read as `says` reads it
+abbrev pub answered : {T A : Type 0} → (T → A) → Result T Refusal → Answer A
+answered says (Ok x) = gives (says x)
+answered says (Err r) = refused (number_of r)
 
-abbrev pub local_longitude : LocalLongitudeAnswer → Answer ℤ
-local_longitude (LocalLongitude.Gives x) = gives x.0
-local_longitude (LocalLongitude.Refused r) = refused (number_of r)
+abbrev pub local_latitude : Result LocalLatitude Refusal → Answer ℤ
+local_latitude = answered (λ x. x.0)
 
-abbrev pub local_position : LocalPositionAnswer → Answer (ℤ × ℤ)
-local_position (LocalPosition.Gives p) = gives (p.latitude.0, p.longitude.0)
-local_position (LocalPosition.Refused r) = refused (number_of r)
+abbrev pub local_longitude : Result LocalLongitude Refusal → Answer ℤ
+local_longitude = answered (λ x. x.0)
 
-abbrev pub wgs84_latitude : Wgs84LatitudeAnswer → Answer ℤ
-wgs84_latitude (Wgs84Latitude.Gives x) = gives x.0
-wgs84_latitude (Wgs84Latitude.Refused r) = refused (number_of r)
+abbrev pub local_position : Result LocalPosition Refusal → Answer (ℤ × ℤ)
+local_position = answered (λ p. (p.latitude.0, p.longitude.0))
 
-abbrev pub wgs84_longitude : Wgs84LongitudeAnswer → Answer ℤ
-wgs84_longitude (Wgs84Longitude.Gives x) = gives x.0
-wgs84_longitude (Wgs84Longitude.Refused r) = refused (number_of r)
+abbrev pub wgs84_latitude : Result Wgs84Latitude Refusal → Answer ℤ
+wgs84_latitude = answered (λ x. x.0)
 
-abbrev pub wgs84_position : Wgs84PositionAnswer → Answer (ℤ × ℤ)
-wgs84_position (Wgs84Position.Gives p) = gives (p.latitude.0, p.longitude.0)
-wgs84_position (Wgs84Position.Refused r) = refused (number_of r)
+abbrev pub wgs84_longitude : Result Wgs84Longitude Refusal → Answer ℤ
+wgs84_longitude = answered (λ x. x.0)
 
-abbrev pub angle_shift : AngleShiftAnswer → Answer ℤ
-angle_shift (AngleShift.Gives x) = gives x.0
-angle_shift (AngleShift.Refused r) = refused (number_of r)
+abbrev pub wgs84_position : Result Wgs84Position Refusal → Answer (ℤ × ℤ)
+wgs84_position = answered (λ p. (p.latitude.0, p.longitude.0))
 
-abbrev pub height : HeightAnswer → Answer ℤ
-height (Height.Gives x) = gives x.0
-height (Height.Refused r) = refused (number_of r)
+abbrev pub angle_shift : Result AngleShift Refusal → Answer ℤ
+angle_shift = answered (λ x. x.0)
+
+abbrev pub height : Result Height Refusal → Answer ℤ
+height = answered (λ x. x.0)
+
+-- a bare number
+abbrev pub number : Result ℤ Refusal → Answer ℤ
+number = answered (λ x. x)
 
 -- how many bytes were written
-abbrev pub written : WrittenAnswer → Answer ℕ
-written (Written.Gives n) = gives n
-written (Written.Refused r) = refused (number_of r)
+abbrev pub written : Result ℕ Refusal → Answer ℕ
+written = answered (λ n. n)

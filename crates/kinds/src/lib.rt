@@ -1,17 +1,17 @@
 // The kinds of quantity: latitude and longitude on the local datum, each and as a position, and on WGS 84, the shift of an
 // angle, and height; why a call is refused; and a text put into a lent buffer. Outside this crate a kind is made by `new`, which
-// tests a raw number (a shift and a height also by `of`, from 4 bytes, any of which are one; a WGS 84 position also by
+// tests a raw number (a shift and a height also by `from` 4 bytes, any of which are one; a WGS 84 position also by
 // `shifted`, which does not test), and read by a method: code that takes one kind, or a bare number, for another kind does not
 // build.
 #![tactic(auto)]
 
 ghost use Rattle.std.specs.Prelude.{◌≡◌, ◌≤◌, ◌++◌, drop, length};
 ghost use Rattle.kinds.specs.Answer.{gives, provided, number_of, placed, counted, lent};
-ghost use Rattle.kinds.specs.Cases.{local_latitude, local_longitude, local_position, wgs84_latitude, wgs84_longitude, angle_shift, height, written};
+ghost use Rattle.kinds.specs.Cases.{local_latitude, local_longitude, local_position, wgs84_latitude, wgs84_longitude, angle_shift, height, number, written};
 ghost use Rattle.kinds.specs.Kinds.{within, is_latitude, is_longitude, is_position, is_wgs84_latitude, is_wgs84_longitude, is_four_bytes, tested, converted};
 
 // Why a call is refused, in the order of document 01's numbers.
-#[derive(Clone, Copy)]
+#[derive(Clone, Copy, Debug, PartialEq, Eq, Hash)]
 pub enum Refusal {
     // a text, line or sheet has the wrong length
     Length,
@@ -52,22 +52,15 @@ impl Refusal {
     }
 }
 
-// How many bytes a call wrote to the start of a lent buffer.
-#[derive(Clone, Copy)]
-pub enum WrittenAnswer {
-    Gives(usize),
-    Refused(Refusal),
-}
-
-// Puts a text at the start of a lent buffer. Refused: 7 it is shorter.
-pub fn put(text: &[u8], out: &mut [u8]) -> WrittenAnswer
+// Puts a text at the start of a lent buffer, and says how many bytes it has. Refused: 7 the buffer is shorter.
+pub fn put(text: &[u8], out: &mut [u8]) -> Result<usize, Refusal>
     ensures result_value { written result ≡ counted (placed text.now (length out.old)) }
     ensures out_after { out.new ≡ lent (placed text.now (length out.old)) out.old }
 {
     if out.len() < text.len() {
-        return WrittenAnswer::Refused(Refusal::Room);
+        return Err(Refusal::Room);
     }
-    WrittenAnswer::Gives(copy(text, out))
+    Ok(copy(text, out))
 }
 
 // Copies bytes to the start of a buffer that has room for them. How many they are.
@@ -85,12 +78,6 @@ pub fn copy(bytes: &[u8], out: &mut [u8]) -> usize
 #[derive(Clone, Copy)]
 pub struct LocalLatitude(i32);
 
-#[derive(Clone, Copy)]
-pub enum LocalLatitudeAnswer {
-    Gives(LocalLatitude),
-    Refused(Refusal),
-}
-
 impl LocalLatitude {
     // ms in a second, a minute and a degree
     pub const SECOND: i64 = 1_000;
@@ -103,14 +90,11 @@ impl LocalLatitude {
     pub const LARGEST: i64 = 90 * LocalLatitude::DEGREE;
 
     // From -LARGEST to LARGEST; refused with 3 outside.
-    pub fn new(ms: i64) -> LocalLatitudeAnswer
+    pub fn new(ms: i64) -> Result<LocalLatitude, Refusal>
         ensures { local_latitude result ≡ tested (is_latitude ms) ms }
     {
-        if within(-LocalLatitude::LARGEST, LocalLatitude::LARGEST, ms) {
-            LocalLatitudeAnswer::Gives(LocalLatitude(ms as i32))
-        } else {
-            LocalLatitudeAnswer::Refused(Refusal::Range)
-        }
+        let ms = ranged(-LocalLatitude::LARGEST, LocalLatitude::LARGEST, ms)?;
+        Ok(LocalLatitude(ms as i32))
     }
 
     pub fn ms(self) -> i32
@@ -132,25 +116,16 @@ impl LocalLatitude {
 #[derive(Clone, Copy)]
 pub struct LocalLongitude(i32);
 
-#[derive(Clone, Copy)]
-pub enum LocalLongitudeAnswer {
-    Gives(LocalLongitude),
-    Refused(Refusal),
-}
-
 impl LocalLongitude {
     // 360°, which is written 0
     pub const TURN: i64 = 360 * LocalLatitude::DEGREE;
 
     // From 0 up to TURN, which is out; refused with 3 outside.
-    pub fn new(ms: i64) -> LocalLongitudeAnswer
+    pub fn new(ms: i64) -> Result<LocalLongitude, Refusal>
         ensures { local_longitude result ≡ tested (is_longitude ms) ms }
     {
-        if within(0, LocalLongitude::TURN - 1, ms) {
-            LocalLongitudeAnswer::Gives(LocalLongitude(ms as i32))
-        } else {
-            LocalLongitudeAnswer::Refused(Refusal::Range)
-        }
+        let ms = ranged(0, LocalLongitude::TURN - 1, ms)?;
+        Ok(LocalLongitude(ms as i32))
     }
 
     pub fn ms(self) -> i32
@@ -175,24 +150,14 @@ pub struct LocalPosition {
     pub longitude: LocalLongitude,
 }
 
-#[derive(Clone, Copy)]
-pub enum LocalPositionAnswer {
-    Gives(LocalPosition),
-    Refused(Refusal),
-}
-
 impl LocalPosition {
     // Refused with 3 where the one or the other is out of range.
-    pub fn new(latitude: i64, longitude: i64) -> LocalPositionAnswer
+    pub fn new(latitude: i64, longitude: i64) -> Result<LocalPosition, Refusal>
         ensures { local_position result ≡ provided (is_position latitude longitude) 3 (gives (latitude, longitude)) }
     {
-        let LocalLatitudeAnswer::Gives(north) = LocalLatitude::new(latitude) else {
-            return LocalPositionAnswer::Refused(Refusal::Range);
-        };
-        let LocalLongitudeAnswer::Gives(east) = LocalLongitude::new(longitude) else {
-            return LocalPositionAnswer::Refused(Refusal::Range);
-        };
-        LocalPositionAnswer::Gives(LocalPosition {
+        let north = LocalLatitude::new(latitude)?;
+        let east = LocalLongitude::new(longitude)?;
+        Ok(LocalPosition {
             latitude: north,
             longitude: east,
         })
@@ -216,12 +181,6 @@ impl LocalPosition {
 #[derive(Clone, Copy)]
 pub struct AngleShift(i32);
 
-#[derive(Clone, Copy)]
-pub enum AngleShiftAnswer {
-    Gives(AngleShift),
-    Refused(Refusal),
-}
-
 impl AngleShift {
     // units in a ms
     pub const PER_MS: i64 = 100;
@@ -235,21 +194,11 @@ impl AngleShift {
     pub const LARGEST: i64 = i32::MAX as i64;
 
     // From LEAST to LARGEST; refused with 3 outside.
-    pub fn new(units: i64) -> AngleShiftAnswer
+    pub fn new(units: i64) -> Result<AngleShift, Refusal>
         ensures { angle_shift result ≡ tested (is_four_bytes units) units }
     {
-        if within(AngleShift::LEAST, AngleShift::LARGEST, units) {
-            AngleShiftAnswer::Gives(AngleShift(units as i32))
-        } else {
-            AngleShiftAnswer::Refused(Refusal::Range)
-        }
-    }
-
-    // Of a number that is held in 4 bytes already, and needs no test.
-    pub fn of(units: i32) -> AngleShift
-        ensures { result.0 ≡ units }
-    {
-        AngleShift(units)
+        let units = ranged(AngleShift::LEAST, AngleShift::LARGEST, units)?;
+        Ok(AngleShift(units as i32))
     }
 
     pub fn units(self) -> i32
@@ -260,15 +209,18 @@ impl AngleShift {
     }
 }
 
+// Of a number that is held in 4 bytes already, and needs no test.
+impl From<i32> for AngleShift {
+    ghost from_gives = { λ units made. made.0 ≡ units };
+
+    fn from(units: i32) -> AngleShift {
+        AngleShift(units)
+    }
+}
+
 // A height or its shift, in mm.
 #[derive(Clone, Copy)]
 pub struct Height(i32);
-
-#[derive(Clone, Copy)]
-pub enum HeightAnswer {
-    Gives(Height),
-    Refused(Refusal),
-}
 
 impl Height {
     // mm in a metre
@@ -280,21 +232,11 @@ impl Height {
     pub const LARGEST: i64 = i32::MAX as i64;
 
     // From LEAST to LARGEST; refused with 3 outside.
-    pub fn new(mm: i64) -> HeightAnswer
+    pub fn new(mm: i64) -> Result<Height, Refusal>
         ensures { height result ≡ tested (is_four_bytes mm) mm }
     {
-        if within(Height::LEAST, Height::LARGEST, mm) {
-            HeightAnswer::Gives(Height(mm as i32))
-        } else {
-            HeightAnswer::Refused(Refusal::Range)
-        }
-    }
-
-    // Of a number that is held in 4 bytes already, and needs no test.
-    pub fn of(mm: i32) -> Height
-        ensures { result.0 ≡ mm }
-    {
-        Height(mm)
+        let mm = ranged(Height::LEAST, Height::LARGEST, mm)?;
+        Ok(Height(mm as i32))
     }
 
     pub fn mm(self) -> i32
@@ -305,28 +247,28 @@ impl Height {
     }
 }
 
+// Of a number that is held in 4 bytes already, and needs no test.
+impl From<i32> for Height {
+    ghost from_gives = { λ mm made. made.0 ≡ mm };
+
+    fn from(mm: i32) -> Height {
+        Height(mm)
+    }
+}
+
 // Latitude on WGS 84, in 0.00001", north positive.
 #[derive(Clone, Copy)]
 pub struct Wgs84Latitude(i64);
-
-#[derive(Clone, Copy)]
-pub enum Wgs84LatitudeAnswer {
-    Gives(Wgs84Latitude),
-    Refused(Refusal),
-}
 
 impl Wgs84Latitude {
     pub const LARGEST: i64 = AngleShift::PER_MS * LocalLatitude::LARGEST;
 
     // From -LARGEST to LARGEST; refused with 3 outside.
-    pub fn new(units: i64) -> Wgs84LatitudeAnswer
+    pub fn new(units: i64) -> Result<Wgs84Latitude, Refusal>
         ensures { wgs84_latitude result ≡ tested (is_wgs84_latitude units) units }
     {
-        if within(-Wgs84Latitude::LARGEST, Wgs84Latitude::LARGEST, units) {
-            Wgs84LatitudeAnswer::Gives(Wgs84Latitude(units))
-        } else {
-            Wgs84LatitudeAnswer::Refused(Refusal::Range)
-        }
+        let units = ranged(-Wgs84Latitude::LARGEST, Wgs84Latitude::LARGEST, units)?;
+        Ok(Wgs84Latitude(units))
     }
 
     pub fn units(self) -> i64
@@ -341,24 +283,15 @@ impl Wgs84Latitude {
 #[derive(Clone, Copy)]
 pub struct Wgs84Longitude(i64);
 
-#[derive(Clone, Copy)]
-pub enum Wgs84LongitudeAnswer {
-    Gives(Wgs84Longitude),
-    Refused(Refusal),
-}
-
 impl Wgs84Longitude {
     pub const TURN: i64 = AngleShift::PER_MS * LocalLongitude::TURN;
 
     // From 0 up to TURN, which is out; refused with 3 outside.
-    pub fn new(units: i64) -> Wgs84LongitudeAnswer
+    pub fn new(units: i64) -> Result<Wgs84Longitude, Refusal>
         ensures { wgs84_longitude result ≡ tested (is_wgs84_longitude units) units }
     {
-        if within(0, Wgs84Longitude::TURN - 1, units) {
-            Wgs84LongitudeAnswer::Gives(Wgs84Longitude(units))
-        } else {
-            Wgs84LongitudeAnswer::Refused(Refusal::Range)
-        }
+        let units = ranged(0, Wgs84Longitude::TURN - 1, units)?;
+        Ok(Wgs84Longitude(units))
     }
 
     pub fn units(self) -> i64
@@ -376,17 +309,22 @@ pub struct Wgs84Position {
     pub longitude: Wgs84Longitude,
 }
 
-#[derive(Clone, Copy)]
-pub enum Wgs84PositionAnswer {
-    Gives(Wgs84Position),
-    Refused(Refusal),
-}
-
 // Whether x is from the least to the largest, both in.
 pub fn within(least: i64, largest: i64, x: i64) -> bool
     ensures { result ≡ within least largest x }
 {
     (least <= x) & (x <= largest)
+}
+
+// x, tested: refused with 3 where it is not within the two.
+fn ranged(least: i64, largest: i64, x: i64) -> Result<i64, Refusal>
+    ensures { number result ≡ tested (within least largest x) x }
+{
+    if within(least, largest, x) {
+        Ok(x)
+    } else {
+        Err(Refusal::Range)
+    }
 }
 
 // In 0.00001", of ms and their shift.
