@@ -10,6 +10,8 @@ use borrow.Author.Tests.{eq-eqb}
 use Rattle.whole.proofs.Bools.{both}
 use Rattle.kinds.specs.Answer.{Answer, gives, refused, provided, Test, ◌else◌, in_order, AllHold, FirstFails, following, refusal_of, number_of}
 use Rattle.std.specs.Prelude.{Result, Ok, Err}
+use Rattle.std.specs.Result.{IsErrAnd}
+use Rattle.std.proofs.lemmas.Result.{err_from_is_err_and}
 use Rattle.kinds.specs.Cases.{answered}
 use Rattle.kinds.specs.declared.Refusal.{Refusal}
 use Rattle.kinds.specs.declared.Refusal.TheVariants.{Length, Kind, Range, Code, Family, Area, Room, Foreign, Sheet}
@@ -186,6 +188,10 @@ module _ {T A : Type 0} (says : T → A) (made : A → T) (back : (x : T) → ma
 
   pub determined : (a b : Result T Refusal) → answered says a ≡ answered says b → a ≡ b
   determined a b h = sym (again a) ∙ ap rebuilt h ∙ again b
+
+-- the result at the exit of a `?` is refused as what was asked
+pub handed_on : {T A : Type 0} (says : T → A) (r : Result T Refusal) (e : Refusal) → IsErrAnd r (λ y. y ≡ e) → answered says r ≡ refused (number_of e)
+handed_on says r e h = let p = err_from_is_err_and r h in ap (answered says) p.1 ∙ ap (λ (y : Refusal). refused (number_of y)) p.2
 
 -- ---- 0 is the number of no refusal
 -- an answer whose refusals are above 0 has a value where its number is 0

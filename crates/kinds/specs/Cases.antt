@@ -40,10 +40,10 @@ angle_shift = answered (λ x. x.0)
 abbrev pub height : Result Height Refusal → Answer ℤ
 height = answered (λ x. x.0)
 
--- a bare number
-abbrev pub number : Result ℤ Refusal → Answer ℤ
-number = answered (λ x. x)
+-- of a value that says itself
+abbrev pub said : {A : Type 0} → Result A Refusal → Answer A
+said = answered (λ x. x)
 
 -- how many bytes were written
 abbrev pub written : Result ℕ Refusal → Answer ℕ
-written = answered (λ n. n)
+written = said

@@ -7,7 +7,7 @@
 
 ghost use Rattle.std.specs.Prelude.{◌≡◌, ◌≤◌, ◌++◌, drop, length};
 ghost use Rattle.kinds.specs.Answer.{gives, provided, number_of, placed, counted, lent};
-ghost use Rattle.kinds.specs.Cases.{local_latitude, local_longitude, local_position, wgs84_latitude, wgs84_longitude, angle_shift, height, number, written};
+ghost use Rattle.kinds.specs.Cases.{local_latitude, local_longitude, local_position, wgs84_latitude, wgs84_longitude, angle_shift, height, said, written};
 ghost use Rattle.kinds.specs.Kinds.{within, is_latitude, is_longitude, is_position, is_wgs84_latitude, is_wgs84_longitude, is_four_bytes, tested, converted};
 
 // Why a call is refused, in the order of document 01's numbers.
@@ -318,7 +318,7 @@ pub fn within(least: i64, largest: i64, x: i64) -> bool
 
 // x, tested: refused with 3 where it is not within the two.
 fn ranged(least: i64, largest: i64, x: i64) -> Result<i64, Refusal>
-    ensures { number result ≡ tested (within least largest x) x }
+    ensures { said result ≡ tested (within least largest x) x }
 {
     if within(least, largest, x) {
         Ok(x)

@@ -3,11 +3,11 @@ use Rattle.std.proofs.Common.{◌≡◌, ℕ, ◌≤◌, Bool, true, false, not,
 use mathlib.Core.Bool.{and-false, false≢true}
 use lib.Signed.{le_z}
 use borrow.Author.Tests.{lt-leb}
-use Rattle.whole.proofs.Bools.{by_test}
-use Rattle.kinds.specs.Answer.{Answer, gives, refused, provided}
+use Rattle.whole.proofs.Bools.{by_test, joined}
+use Rattle.kinds.proofs.Answers.{not_both, passed, same_value}
+use Rattle.kinds.specs.Answer.{Answer, gives, refused, provided, refusal_of}
 use Rattle.kinds.specs.Kinds.{is_longitude, tested}
-use Rattle.position.specs.Inside.{Says}
-use Rattle.position.specs.Text.{Coordinate, letter_s, text_length, letter, in_sixties, angle, has_text, right_kinds, value, right_ranges, read}
+use Rattle.position.specs.Text.{Coordinate, letter_s, text_length, is_letter, letter, is_angle, in_sixties, angle, has_text, right_kinds, value, right_ranges, read}
 
 -- tests of which two fail, whatever the third
 pub two_fail : (a b c : Bool) → (a && c) ≡ false → ((a && b) && c) ≡ false
@@ -43,44 +43,30 @@ module _ (k : Coordinate) (t : List ℕ) where
       pub wrong_range : in_sixties k t ≡ false → refused 3 ≡ read k t
       wrong_range h = sym (right_length long ∙ simp (kinds, h))
 
-      -- the rest is for the constructor to test, once S after zero is refused: of the ms, or of a number that it refuses
-      module _ {n : ℕ} (ms : in_sixties k t ≡ true → n ≡ angle k t) where
-        abbrev x : ℤ
-        x = neg_ℤ (pos (angle k t))
+      -- the rest is for the constructor to test, once S after zero is refused
+      module _ (sixties : in_sixties k t ≡ true) where
+        abbrev n : ℕ
+        n = angle k t
 
-        pub south : letter k t ≡ letter_s → (in_sixties k t ≡ false → has_text k (neg_ℤ (pos n)) ≡ false) → provided (not (eqb n 0)) 3 (tested (has_text k (neg_ℤ (pos n))) (neg_ℤ (pos n))) ≡ read k t
-        south h none =
-            by_test (in_sixties k t)
-            (λ e.
-            ap (λ (m : ℕ). provided (not (eqb m 0)) 3 (tested (has_text k (neg_ℤ (pos m))) (neg_ℤ (pos m)))) (ms e)
-            ∙ sym (right_length long ∙ simp (kinds, e, eq-eqb (letter k t) letter_s h) (sym (in_turn (not (eqb (angle k t) 0)) (has_text k x) 3 (gives x)))))
-            (λ e. simp (none e) (refused_anyway (not (eqb n 0)) 3) ∙ wrong_range e)
+        pub south : letter k t ≡ letter_s → provided (not (eqb n 0)) 3 (tested (has_text k (neg_ℤ (pos n))) (neg_ℤ (pos n))) ≡ read k t
+        south h = in_turn (not (eqb n 0)) (has_text k (neg_ℤ (pos n))) 3 (gives (neg_ℤ (pos n))) ∙ sym (right_length long ∙ simp (kinds, sixties, eq-eqb (letter k t) letter_s h))
 
-        pub not_south : (letter k t ≡ letter_s → ⊥) → (in_sixties k t ≡ false → has_text k (pos n) ≡ false) → tested (has_text k (pos n)) (pos n) ≡ read k t
-        not_south h none =
-            by_test (in_sixties k t)
-            (λ e. ap (λ (m : ℕ). tested (has_text k (pos m)) (pos m)) (ms e) ∙ sym (right_length long ∙ simp (kinds, e, ne_eqb (letter k t) letter_s h)))
-            (λ e. simp (none e) (wrong_range e))
+        pub not_south : (letter k t ≡ letter_s → ⊥) → tested (has_text k (pos n)) (pos n) ≡ read k t
+        not_south h = sym (right_length long ∙ simp (kinds, sixties, ne_eqb (letter k t) letter_s h))
 
--- ---- what one number says of an angle
--- that its bytes are not of their kind
-pub not_said : (a s : Bool) (m : ℕ) {n : ℕ} → Says n a s m → n ≡ 1296000001 → a ≡ false
-not_said false s m is h = refl
-not_said true false m is h = absurd (omega (arith, is, h))
-not_said true true m is h = absurd (omega (arith, is.0, is.1, h))
+    -- what is told of the bytes before the letter, m being what they say: why they say nothing
+    pub untold : is_letter k (letter k t) ≡ true → (m : ℕ) {n : ℕ} → refused n ≡ provided (is_angle k t) 2 (provided (in_sixties k t) 3 (gives m)) → refused n ≡ read k t
+    untold l m {n} h =
+        by_test (is_angle k t)
+        (λ a.
+        by_test (in_sixties k t)
+        (λ s. absurd (not_both {y = m} (sym (h ∙ simp (a, s)))))
+        (λ s. let e : ◌≡◌ {A = Answer ℕ} (refused n) (refused 3) = h ∙ simp (a, s) in ap refused (ap refusal_of e) ∙ wrong_range (joined a l) s))
+        (λ a. let e : ◌≡◌ {A = Answer ℕ} (refused n) (refused 2) = h ∙ simp a in ap refused (ap refusal_of e) ∙ wrong_kind (simp a))
 
--- or that they are, and its ms, or a number that no kind takes
-pub record Said (a s : Bool) (m n : ℕ) : Type 0 where
-  pub kinds : a ≡ true
-  pub small : n ≤ 1296000000
-  pub ms : s ≡ true → n ≡ m
-  pub none : s ≡ false → n ≡ 1296000000
-
-pub said : (a s : Bool) (m : ℕ) {n : ℕ} → Says n a s m → (n ≡ 1296000001 → ⊥) → Said a s m n
-said false s m is h = absurd (h is)
-said true false m is h = record { kinds = refl; small = omega (arith, is); ms = λ e. absurd (false≢true e); none = λ e. is }
-said true true m is h = record { kinds = refl; small = omega (arith, is.0, is.1); ms = λ e. is.0; none = λ e. absurd (false≢true (sym e)) }
-
--- a whole turn and more is no longitude
-pub past_a_turn : (n : ℕ) → 1296000000 ≤ n → is_longitude (pos n) ≡ false
-past_a_turn n h = simp (lt-leb n 1295999999 (omega (arith, h))) (and-false (le_z (pos 0) (pos n)))
+-- or what they say
+pub told : (a s : Bool) {m n : ℕ} → gives n ≡ provided a 2 (provided s 3 (gives m)) → (a ≡ true) × ((s ≡ true) × (m ≡ n))
+told a s {m} h =
+    let p = passed a 2 (provided s 3 (gives m)) (sym h) in
+    let q = passed s 3 (gives m) p.1 in
+    (p.0, (q.0, same_value q.1))

@@ -2,37 +2,31 @@
 // A longitude's text is a digit, for hundreds of degrees, and then a text of a latitude's form: so the work is done once.
 #![tactic(auto)]
 
-ghost use Rattle.std.specs.Prelude.{◌≡◌, ◌+◌, ◌%◌, ◌<◌, ◌≤◌, true, not, length, pos, neg_ℤ, ◌==◌};
+ghost use Rattle.std.specs.Prelude.{◌≡◌, ◌+◌, ◌%◌, ◌<◌, ◌≤◌, true, not, length, pos, neg_ℤ, ◌==◌, IfOk};
 ghost use Rattle.whole.specs.Digits.{is_digit, digit_of, from_digits};
 ghost use Rattle.kinds.specs.Answer.{provided, counted, lent};
-ghost use Rattle.kinds.specs.Cases.{local_latitude, local_longitude, written};
+ghost use Rattle.kinds.specs.Cases.{local_latitude, local_longitude, said, written};
 ghost use Rattle.kinds.specs.Kinds.{is_latitude, tested};
-ghost use Rattle.position.specs.Inside.{figures, InPairs, SaysAngle};
+ghost use Rattle.position.specs.Inside.{figures, InPairs, angle_said};
 ghost use Rattle.position.specs.Text.{latitude, longitude, degrees, is_angle, in_sixties, angle, read, spelled, write};
 
-use kinds::{
-    LocalLatitude, LocalLatitudeAnswer, LocalLongitude, LocalLongitudeAnswer, Refusal,
-    WrittenAnswer, put,
-};
+use kinds::{LocalLatitude, LocalLongitude, Refusal, put};
 use numbers::four;
 
 // Reads the 11 bytes `ddmmss.sssN` or `S` into ms, north positive: `900000.000N` is 324000000. Refused: 1 another length, 2 a
 // byte that is not of its kind, 3 minutes or seconds from 60 up, past 90°, or S after zero.
 #[tactic(auto, using(crate::proofs::Reading::wrong_length))]
-pub fn read_latitude(text: &[u8]) -> LocalLatitudeAnswer
+pub fn read_latitude(text: &[u8]) -> Result<LocalLatitude, Refusal>
     ensures { local_latitude result ≡ read latitude text.now }
 {
     if text.len() != LATITUDE_BYTES {
-        return LocalLatitudeAnswer::Refused(Refusal::Length);
+        return Err(Refusal::Length);
     }
     let letter = text[10];
     if !((letter == b'N') | (letter == b'S')) {
-        return LocalLatitudeAnswer::Refused(Refusal::Kind);
+        return Err(Refusal::Kind);
     }
-    let ms = read_angle(text);
-    if ms == WRONG_KIND {
-        return LocalLatitudeAnswer::Refused(Refusal::Kind);
-    }
+    let ms = read_angle(text)?;
     if letter == b'S' {
         return southern(ms);
     }
@@ -42,32 +36,27 @@ pub fn read_latitude(text: &[u8]) -> LocalLatitudeAnswer
 // Reads the 12 bytes `dddmmss.sssE` into ms, east positive: `0330000.000E` is 118800000. Refused: 1 another length, 2 a byte
 // that is not of its kind, 3 minutes or seconds from 60 up, or from 360° up.
 #[tactic(auto, using(crate::proofs::Reading::wrong_length))]
-pub fn read_longitude(text: &[u8]) -> LocalLongitudeAnswer
+pub fn read_longitude(text: &[u8]) -> Result<LocalLongitude, Refusal>
     ensures { local_longitude result ≡ read longitude text.now }
 {
     if text.len() != LONGITUDE_BYTES {
-        return LocalLongitudeAnswer::Refused(Refusal::Length);
+        return Err(Refusal::Length);
     }
     let hundreds = text[0];
     let letter = text[11];
     if !(is_digit(hundreds) & (letter == b'E')) {
-        return LocalLongitudeAnswer::Refused(Refusal::Kind);
+        return Err(Refusal::Kind);
     }
-    let ms = read_angle(&text[1..]);
-    if ms == WRONG_KIND {
-        return LocalLongitudeAnswer::Refused(Refusal::Kind);
-    }
+    let ms = read_angle(&text[1..])?;
     LocalLongitude::new((digit(hundreds) * HUNDRED_DEGREES + ms) as i64)
 }
 
 // Writes a latitude in ms to the first 11 bytes of out: -1 is `000000.001S`. Refused: 3 past 90°, 7 out is shorter.
-pub fn write_latitude(ms: i64, out: &mut [u8]) -> WrittenAnswer
+pub fn write_latitude(ms: i64, out: &mut [u8]) -> Result<usize, Refusal>
     ensures result_value { written result ≡ counted (write latitude ms (length out.old)) }
     ensures out_after { out.new ≡ lent (write latitude ms (length out.old)) out.old }
 {
-    if let LocalLatitudeAnswer::Refused(why) = LocalLatitude::new(ms) {
-        return WrittenAnswer::Refused(why);
-    }
+    LocalLatitude::new(ms)?;
     let mut letter = b'N';
     if ms < 0 {
         letter = b'S';
@@ -78,13 +67,11 @@ pub fn write_latitude(ms: i64, out: &mut [u8]) -> WrittenAnswer
 
 // Writes a longitude in ms to the first 12 bytes of out: 118800000 is `0330000.000E`. Refused: 3 below 0 or from 360° up, 7
 // out is shorter.
-pub fn write_longitude(ms: i64, out: &mut [u8]) -> WrittenAnswer
+pub fn write_longitude(ms: i64, out: &mut [u8]) -> Result<usize, Refusal>
     ensures result_value { written result ≡ counted (write longitude ms (length out.old)) }
     ensures out_after { out.new ≡ lent (write longitude ms (length out.old)) out.old }
 {
-    if let LocalLongitudeAnswer::Refused(why) = LocalLongitude::new(ms) {
-        return WrittenAnswer::Refused(why);
-    }
+    LocalLongitude::new(ms)?;
     let line = spelled(whole::size(ms), b'E');
     put(&line, out)
 }
@@ -101,12 +88,6 @@ const MINUTE: u64 = LocalLatitude::MINUTE as u64;
 const DEGREE: u64 = LocalLatitude::DEGREE as u64;
 
 const HUNDRED_DEGREES: u64 = 100 * DEGREE;
-
-// what `read_angle` answers where minutes or seconds are from 60 up: a whole turn, which no kind takes
-const WRONG_RANGE: u64 = 360 * DEGREE;
-
-// and where a byte is not of its kind
-const WRONG_KIND: u64 = WRONG_RANGE + 1;
 
 // the bits of `figures` that are none where its bytes are digits and a point
 const NO_FIGURE: u64 = 0xF0F0_F0F0_FFF0_F0F0;
@@ -133,20 +114,21 @@ fn digit(b: u8) -> u64
     b as u64 - b'0' as u64
 }
 
-// Of the 11 bytes of a latitude's form: the ms that those before the letter say, or why they say none. One number, since an
-// enum would go through memory. So would t, if it were handed on as it came: `all` is a part of it, with every byte.
-fn read_angle(t: &[u8]) -> u64
+// Of the 11 bytes of a latitude's form: the ms that those before the letter say. t would go through memory, if it were handed on as
+// it came: `all` is a part of it, with every byte.
+fn read_angle(t: &[u8]) -> Result<u64, Refusal>
     requires { length t.now ≡ 11 }
-    ensures { SaysAngle result t.now }
+    ensures value { said result ≡ angle_said t.now }
+    ensures upper_bound { IfOk result (λ ms. ms < 400000000) }
 {
     let all = &t[0..];
     if !is_angle(all) {
-        return WRONG_KIND;
+        return Err(Refusal::Kind);
     }
     if !in_sixties(all) {
-        return WRONG_RANGE;
+        return Err(Refusal::Range);
     }
-    angle(all)
+    Ok(angle(all))
 }
 
 // They are digits and a point. A digit is 0x30 to 0x39, so what `figures` leaves of it is below 16, and still is with 6 more;
@@ -216,12 +198,12 @@ fn angle(t: &[u8]) -> u64
 }
 
 // S is below zero, and not zero.
-fn southern(ms: u64) -> LocalLatitudeAnswer
-    requires { ms ≤ 1_296_000_000 }
+fn southern(ms: u64) -> Result<LocalLatitude, Refusal>
+    requires { ms < 400_000_000 }
     ensures { local_latitude result ≡ provided (not (ms == 0)) 3 (tested (is_latitude (neg_ℤ (pos ms))) (neg_ℤ (pos ms))) }
 {
     if ms == 0 {
-        return LocalLatitudeAnswer::Refused(Refusal::Range);
+        return Err(Refusal::Range);
     }
     LocalLatitude::new(-(ms as i64))
 }

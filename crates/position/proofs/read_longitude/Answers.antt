@@ -1,13 +1,14 @@
-use Rattle.std.proofs.Common.{◌≡◌, ℕ, ◌+◌, ◌*◌, ◌^◌, ◌<◌, Bool, true, false, ◌&&◌, List, length, ℤ, sym, ap, ◌∙◌, arith, w64, eqb-true}
+use Rattle.std.proofs.Common.{◌≡◌, ℕ, ◌+◌, ◌*◌, ◌^◌, ◌<◌, Bool, true, false, ◌&&◌, List, length, ℤ, pos, refl, sym, ap, ◌∙◌, arith, w64, eqb-true}
 use mir.Val.{hbits}
 use Rattle.whole.specs.Digits.{is_digit}
 use Rattle.whole.proofs.Bools.{both, joined}
 use Rattle.whole.proofs.Words.{from_unsigned}
 use Rattle.kinds.specs.Kinds.{is_longitude, tested}
+use Rattle.kinds.proofs.Answers.{handed_on}
 use Rattle.kinds.proofs.Bytes.{at}
 use Rattle.position.specs.Text.{latitude, longitude, letter_e, letter, is_letter, is_angle, in_sixties, angle}
 use Rattle.position.proofs.Bytes.{rest, longitude_is_angle, longitude_in_sixties, longitude_angle}
-use Rattle.position.proofs.Reading.{two_fail, wrong_kind, not_south, not_said, said, past_a_turn}
+use Rattle.position.proofs.Reading.{two_fail, wrong_kind, not_south, untold, told}
 use Rattle.position.proofs.read_longitude.Goals as goal
 
 -- a text of the right length, by its first byte and the rest
@@ -31,8 +32,8 @@ module _ (t : List ℕ) (long : length t ≡ 12) where
   angles : {b : Bool} → is_digit (at t 0) ≡ true → a ≡ b → is_angle longitude t ≡ b
   angles d h = sym (longitude_is_angle t long) ∙ simp d h
 
-  sixties : {b : Bool} → in_sixties longitude t ≡ b → s ≡ b
-  sixties h = longitude_in_sixties t long ∙ h
+  sixties : {b : Bool} → s ≡ b → in_sixties longitude t ≡ b
+  sixties h = sym (longitude_in_sixties t long) ∙ h
 
 pub returns-then-not-is_digit-letter : goal.returns-then-not-is_digit-letter
 returns-then-not-is_digit-letter c =
@@ -43,26 +44,25 @@ returns-then-not-is_digit-letter c =
     wrong_kind longitude t long
     (simp (← longitude_is_angle t long) (two_fail (is_digit (at t 0)) (a t long) (is_letter longitude (letter longitude t)) h))
 
-pub returns-then-ms-eq-WRONG_KIND : goal.returns-then-ms-eq-WRONG_KIND
-returns-then-ms-eq-WRONG_KIND c =
+pub returns-in_err-ms : goal.returns-in_err-ms
+returns-in_err-ms c =
     let t = c.args.text.now in
     let long : length t ≡ 12 = omega arith in
     let f = first t long c.is_digit.ensures c.if-not-is_digit-letter.false in
-    wrong_kind longitude t long
-    (simp (angles t long f.0 (not_said (a t long) (s t long) (m t long) c.read_angle-ms.ensures c.if-ms-eq-WRONG_KIND.true)))
+    handed_on (λ x. x.0) c.from_residual.result _ c.from_residual.ensures.1
+    ∙ untold longitude t long f.1 (m t long)
+    (simp (angles t long f.0 refl, sixties t long refl) c.in_err-ms.ensures.value)
 
 pub returns : goal.returns
 returns c =
     let t = c.args.text.now in
     let long : length t ≡ 12 = omega arith in
     let f = first t long c.is_digit.ensures c.if-not-is_digit-letter.false in
-    let r = said (a t long) (s t long) (m t long) c.read_angle-ms.ensures c.if-ms-eq-WRONG_KIND.false in
-    let n = c.digit.result * 360000000 + c.read_angle-ms.result in
-    let small : n < 2 ^ hbits w64 = omega (arith, c.digit.ensures.upper_bound, r.small) in
-    let ms : in_sixties longitude t ≡ true → n ≡ angle longitude t =
-    λ h. simp (c.digit.ensures.value, r.ms (sixties t long h)) (longitude_angle t long) in
+    let r = told (a t long) (s t long) c.in_ok-ms.ensures.value in
+    let n = c.digit.result * 360000000 + c.in_ok-ms.ms in
+    let small : n < 2 ^ hbits w64 = omega (arith, c.digit.ensures.upper_bound, c.in_ok-ms.ensures.upper_bound) in
+    let ms : n ≡ angle longitude t = simp (c.digit.ensures.value, ← r.1.1) (longitude_angle t long) in
     c.new.ensures
-    ∙ ap (λ (x : ℤ). tested (is_longitude x) x) (from_unsigned {w = w64} small).reads
-    ∙ not_south longitude t long (joined (angles t long f.0 r.kinds) f.1) ms
+    ∙ ap (λ (x : ℤ). tested (is_longitude x) x) ((from_unsigned {w = w64} small).reads ∙ ap pos ms)
+    ∙ not_south longitude t long (joined (angles t long f.0 r.0) f.1) (sixties t long r.1.0)
     (λ h. omega (arith, eqb-true (letter longitude t) letter_e f.1, h))
-    (λ h. past_a_turn n (omega (arith, r.none (sixties t long h))))
