@@ -8,21 +8,17 @@ use Rattle.whole.proofs.Words.{of}
 use Rattle.kinds.specs.Answer.{Answer, gives, refused, provided}
 use Rattle.kinds.proofs.Answers.{passed, failed, same_value}
 use Rattle.kinds.specs.Kinds.{is_position}
-use Rattle.kinds.specs.Cases.{local_position}
-use Rattle.kinds.specs.declared.LocalPositionAnswer.{LocalPositionAnswer}
 use Rattle.tables.specs.Page.{Page, Equation, Family, shift, geoid, is_shift, is_geoid, of_each}
 use Rattle.tables.specs.Rule.{in_area, worked}
-use Rattle.kinds.proofs.Calls.{found}
 use Rattle.datum.specs.Point.{is_code, page_of, point_of, asked}
-use Rattle.datum.specs.Inside.{values_answer, is_of}
-use Rattle.datum.specs.declared.ValuesAnswer.{ValuesAnswer}
+use Rattle.datum.specs.Inside.{is_of}
 
 abbrev code_page : ℤ → Answer Page
 code_page code = provided (is_code code) 4 (gives (page_of code))
 
--- what `coded` gave for the code, which reads it back from its word
-pub coded_page : {code : ℤ} {a b : Answer Page} → SFits w64 code → a ≡ code_page (to_z w64 (of_z w64 code)) → a ≡ b → code_page code ≡ b
-coded_page f e h = ap code_page (sym (of f).reads) ∙ sym e ∙ h
+-- what `coded` told of the code, which reads it back from its word
+pub coded_page : {code : ℤ} {a : Answer Page} → SFits w64 code → a ≡ code_page (to_z w64 (of_z w64 code)) → code_page code ≡ a
+coded_page f e = ap code_page (sym (of f).reads) ∙ sym e
 
 -- a call that asks of a family
 module _ (family : Family Equation → Bool) (code latitude longitude : ℤ) where
@@ -60,15 +56,10 @@ pub worked_shift : (f : Equation → ℤ) (e : Family Equation) → is_shift (of
 worked_shift f (shift a b c) = refl
 worked_shift f (geoid n) = refl
 
--- ---- what `asked` gave, of the numbers as they came
-pub told : (height : Bool) {code latitude longitude : ℤ} → SFits w64 code → SFits w64 latitude → SFits w64 longitude → (r : ValuesAnswer) {case : ValuesAnswer}
-    → values_answer r ≡ asked (is_of height) (to_z w64 (of_z w64 code)) (to_z w64 (of_z w64 latitude)) (to_z w64 (of_z w64 longitude)) → r ≡ case → values_answer case ≡ asked (is_of height) code latitude longitude
-told height c b l r e k = found c b l values_answer (λ a. a) (asked (is_of height)) {given = r} e k
-
--- what a call that makes a position gave, likewise
-pub positioned : (call : ℤ → ℤ → Answer (ℤ × ℤ)) {latitude longitude : ℤ} → SFits w64 latitude → SFits w64 longitude → (r : LocalPositionAnswer) {case : LocalPositionAnswer}
-    → local_position r ≡ call (to_z w64 (of_z w64 latitude)) (to_z w64 (of_z w64 longitude)) → r ≡ case → call latitude longitude ≡ local_position case
-positioned call b l r e k = sym (λ i. call ((of b).reads i) ((of l).reads i)) ∙ sym e ∙ ap local_position k
+-- what a call that makes a position told, of the numbers as they came
+pub positioned : (call : ℤ → ℤ → Answer (ℤ × ℤ)) {latitude longitude : ℤ} → SFits w64 latitude → SFits w64 longitude → {a : Answer (ℤ × ℤ)}
+    → a ≡ call (to_z w64 (of_z w64 latitude)) (to_z w64 (of_z w64 longitude)) → call latitude longitude ≡ a
+positioned call b l e = sym (e ∙ (λ i. call ((of b).reads i) ((of l).reads i)))
 
 -- the test of the family, by the flag of the frame
 pub by_flag : (height flag : Bool) (e : Family Equation) → flag ≡ is_geoid e → beq flag height ≡ is_of height e

@@ -6,15 +6,14 @@ use mathlib.Core.Logic.{◌↔◌, ◌⊎◌}
 use Prim.Native.Nat.{ℕ, ◌<◌, ◌^◌}
 use lib.Dec.{T, lit<, lit≤}
 use lib.IntN.{ℤ, pos, neg_ℤ}
+use Rattle.std.specs.Prelude.{Result}
 use Rattle.whole.specs.Round.{round_div}
 use Rattle.whole.proofs.Bools.{both}
 use Rattle.kinds.specs.Answer.{Answer, gives, refused, provided, Test}
 use Rattle.kinds.specs.Kinds.{within, is_position, is_wgs84_latitude, is_four_bytes, converted}
-use Rattle.kinds.specs.declared.Refusal.TheVariants as Refusal
+use Rattle.kinds.specs.declared.Refusal.{Refusal}
 use Rattle.kinds.specs.declared.Height.{Height}
-use Rattle.kinds.specs.declared.HeightAnswer.{HeightAnswer}
-use Rattle.kinds.specs.declared.HeightAnswer.TheVariants as Geoid
-use Rattle.kinds.proofs.Answers.{one_of, first_failed, fails_at, number_back, rebuilt, determined, is, is_or}
+use Rattle.kinds.proofs.Answers.{one_of, first_failed, fails_at, determined, is, is_or}
 use Rattle.kinds.proofs.Demands.{given_where}
 use Rattle.equation.specs.Powers.{power, powers_of}
 use Rattle.equation.specs.Equation.{sum}
@@ -25,12 +24,10 @@ use Rattle.tables.proofs.Limits.{row_keeps}
 use Rattle.tables.proofs.Bounds.{row_bounded}
 use Rattle.datum.specs.Point.{is_code, row, page_of, point_of, tests, asked, answer_of, shift_of, geoid_of, converted_of, values_of}
 use Rattle.datum.specs.Exact.{exact, at_centre, AllWithin, demanded, bounds_of}
-use Rattle.datum.specs.Cases.{shift_says, geoid_says, shift_answer, geoid_answer, point_answer}
+use Rattle.datum.specs.Cases.{shift_says, geoid_says, given_says, shift_answer, geoid_answer, point_answer}
 use Rattle.datum.specs.declared.Shifts.{Shifts}
-use Rattle.datum.specs.declared.ShiftAnswer.{ShiftAnswer}
-use Rattle.datum.specs.declared.ShiftAnswer.TheVariants as Shifted
-use Rattle.datum.specs.declared.PointAnswer.{PointAnswer}
-use Rattle.datum.specs.declared.PointAnswer.TheVariants as Point
+use Rattle.datum.specs.declared.Given.{Given}
+use Rattle.datum.specs.declared.Given.TheVariants as Given
 use Rattle.datum.proofs.Codes.{not_shift, not_geoid}
 use Rattle.datum.proofs.Points.{fit}
 use Rattle.datum.proofs.Converted as moved
@@ -218,37 +215,28 @@ geoid_height_determined a b h = ap rebuilt h
     rebuilt (shift x y z) = a
     rebuilt (geoid n) = record { 0 = n }
 
--- two answers that say the same are the same
-pub shift_determined : (a b : ShiftAnswer) → shift_answer a ≡ shift_answer b → a ≡ b
-shift_determined = determined yes Shifted.Refused shift_answer back
+-- two results that say the same are the same
+pub shift_determined : (a b : Result Shifts Refusal) → shift_answer a ≡ shift_answer b → a ≡ b
+shift_determined = determined shift_says made (λ _. refl)
   where
-    yes : Family ℤ → ShiftAnswer
-    yes (shift a b c) = Shifted.Gives (record { latitude = record { 0 = a }; longitude = record { 0 = b }; height = record { 0 = c } })
-    yes (geoid n) = Shifted.Refused Refusal.Family
+    made : Family ℤ → Shifts
+    made (shift a b c) = record { latitude = record { 0 = a }; longitude = record { 0 = b }; height = record { 0 = c } }
+    made (geoid n) = record { latitude = record { 0 = n }; longitude = record { 0 = n }; height = record { 0 = n } }
 
-    back : (e : ShiftAnswer) → rebuilt yes Shifted.Refused (shift_answer e) ≡ e
-    back (Shifted.Gives s) = refl
-    back (Shifted.Refused r) = ap Shifted.Refused (number_back r)
-
-pub geoid_determined : (a b : HeightAnswer) → geoid_answer a ≡ geoid_answer b → a ≡ b
-geoid_determined = determined yes Geoid.Refused geoid_answer back
+pub geoid_determined : (a b : Result Height Refusal) → geoid_answer a ≡ geoid_answer b → a ≡ b
+geoid_determined = determined geoid_says made (λ _. refl)
   where
-    yes : Family ℤ → HeightAnswer
-    yes (shift a b c) = Geoid.Refused Refusal.Family
-    yes (geoid n) = Geoid.Gives (record { 0 = n })
+    made : Family ℤ → Height
+    made (shift a b c) = record { 0 = a }
+    made (geoid n) = record { 0 = n }
 
-    back : (e : HeightAnswer) → rebuilt yes Geoid.Refused (geoid_answer e) ≡ e
-    back (Geoid.Gives n) = refl
-    back (Geoid.Refused r) = ap Geoid.Refused (number_back r)
-
-pub point_determined : (a b : PointAnswer) → point_answer a ≡ point_answer b → a ≡ b
-point_determined = determined yes Point.Refused point_answer back
+pub point_determined : (a b : Result Given Refusal) → point_answer a ≡ point_answer b → a ≡ b
+point_determined = determined given_says made back
   where
-    yes : Family ℤ → PointAnswer
-    yes (shift a b c) = Point.Shift (record { latitude = record { 0 = a }; longitude = record { 0 = b }; height = record { 0 = c } })
-    yes (geoid n) = Point.Geoid (record { 0 = n })
+    made : Family ℤ → Given
+    made (shift a b c) = Given.Shift (record { latitude = record { 0 = a }; longitude = record { 0 = b }; height = record { 0 = c } })
+    made (geoid n) = Given.Geoid (record { 0 = n })
 
-    back : (e : PointAnswer) → rebuilt yes Point.Refused (point_answer e) ≡ e
-    back (Point.Shift s) = refl
-    back (Point.Geoid n) = refl
-    back (Point.Refused r) = ap Point.Refused (number_back r)
+    back : (g : Given) → made (given_says g) ≡ g
+    back (Given.Shift s) = refl
+    back (Given.Geoid n) = refl

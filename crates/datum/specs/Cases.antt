@@ -1,15 +1,13 @@
 -- What each case of an answer says, in document 01's numbers.
-use Rattle.std.specs.Prelude.{ℤ}
-use Rattle.kinds.specs.Answer.{Answer, gives, refused, number_of}
-use Rattle.kinds.specs.declared.HeightAnswer.{HeightAnswer}
-use Rattle.kinds.specs.declared.HeightAnswer.TheVariants as Geoid
+use Rattle.std.specs.Prelude.{ℤ, Result}
+use Rattle.kinds.specs.Answer.{Answer}
+use Rattle.kinds.specs.Cases.{answered}
+use Rattle.kinds.specs.declared.Refusal.{Refusal}
 use Rattle.kinds.specs.declared.Height.{Height}
 use Rattle.tables.specs.Page.{Family, shift, geoid}
 use Rattle.datum.specs.declared.Shifts.{Shifts}
-use Rattle.datum.specs.declared.ShiftAnswer.{ShiftAnswer}
-use Rattle.datum.specs.declared.ShiftAnswer.TheVariants as Shifted
-use Rattle.datum.specs.declared.PointAnswer.{PointAnswer}
-use Rattle.datum.specs.declared.PointAnswer.TheVariants as Point
+use Rattle.datum.specs.declared.Given.{Given}
+use Rattle.datum.specs.declared.Given.TheVariants as Given
 
 -- ---- the values
 abbrev pub shift_says : Shifts → Family ℤ
@@ -18,16 +16,16 @@ shift_says s = shift s.latitude.0 s.longitude.0 s.height.0
 abbrev pub geoid_says : Height → Family ℤ
 geoid_says n = geoid n.0
 
+abbrev pub given_says : Given → Family ℤ
+given_says (Given.Shift s) = shift_says s
+given_says (Given.Geoid n) = geoid_says n
+
 -- ---- the answers
-abbrev pub shift_answer : ShiftAnswer → Answer (Family ℤ)
-shift_answer (Shifted.Gives s) = gives (shift_says s)
-shift_answer (Shifted.Refused r) = refused (number_of r)
+abbrev pub shift_answer : Result Shifts Refusal → Answer (Family ℤ)
+shift_answer = answered shift_says
 
-abbrev pub geoid_answer : HeightAnswer → Answer (Family ℤ)
-geoid_answer (Geoid.Gives n) = gives (geoid_says n)
-geoid_answer (Geoid.Refused r) = refused (number_of r)
+abbrev pub geoid_answer : Result Height Refusal → Answer (Family ℤ)
+geoid_answer = answered geoid_says
 
-abbrev pub point_answer : PointAnswer → Answer (Family ℤ)
-point_answer (Point.Shift s) = gives (shift_says s)
-point_answer (Point.Geoid n) = gives (geoid_says n)
-point_answer (Point.Refused r) = refused (number_of r)
+abbrev pub point_answer : Result Given Refusal → Answer (Family ℤ)
+point_answer = answered given_says

@@ -1,19 +1,18 @@
--- What is private to the crate: its own enums, and what its functions tell each other. No promise to a user speaks of it.
-use Rattle.std.specs.Prelude.{Bool, true, false, ℤ}
-use Rattle.kinds.specs.Answer.{Answer, gives, refused, provided, number_of, in_order}
+-- What is private to the crate: what its functions tell each other. No promise to a user speaks of it.
+use Rattle.std.specs.Prelude.{Bool, true, false, ℤ, Result}
+use Rattle.kinds.specs.Answer.{Answer, gives, provided, in_order}
+use Rattle.kinds.specs.Cases.{answered}
+use Rattle.kinds.specs.declared.Refusal.{Refusal}
 use Rattle.kinds.specs.Kinds.{is_position, converted}
 use Rattle.tables.specs.Page.{Page, Equation, Family, is_shift, is_geoid}
 use Rattle.tables.specs.Inside.{datum_page, values_say}
 use Rattle.datum.specs.Point.{point_tests}
-use Rattle.datum.specs.declared.DatumAnswer.{DatumAnswer}
-use Rattle.datum.specs.declared.DatumAnswer.TheVariants as Datum
-use Rattle.datum.specs.declared.ValuesAnswer.{ValuesAnswer}
-use Rattle.datum.specs.declared.ValuesAnswer.TheVariants as Values
+use Rattle.tables.specs.declared.Datum.{Datum}
+use Rattle.tables.specs.declared.Values.{Values}
 
 -- the page of a code's datum
-abbrev pub datum_answer : DatumAnswer → Answer Page
-datum_answer (Datum.Gives d) = gives (datum_page d)
-datum_answer Datum.Unknown = refused 4
+abbrev pub datum_answer : Result Datum Refusal → Answer Page
+datum_answer = answered datum_page
 
 -- a point as a position of the area
 abbrev pub located : Page → ℤ → ℤ → Answer (ℤ × ℤ)
@@ -28,9 +27,8 @@ abbrev pub shifted_by : ℤ → ℤ → ℤ → ℤ → Answer (ℤ × ℤ)
 shifted_by d_lat d_lon latitude longitude = provided (is_position latitude longitude) 3 (gives (converted latitude d_lat, converted longitude d_lon))
 
 -- the values of a point
-abbrev pub values_answer : ValuesAnswer → Answer (Family ℤ)
-values_answer (Values.Gives v) = gives (values_say v)
-values_answer (Values.Refused r) = refused (number_of r)
+abbrev pub values_answer : Result Values Refusal → Answer (Family ℤ)
+values_answer = answered values_say
 
 -- whether a datum has what is asked for: a geoid height, or a shift
 abbrev pub is_of : Bool → Family Equation → Bool

@@ -10,10 +10,7 @@ ghost use Rattle.datum.specs.Point.{is_code, page_of, asked, answer_of, shift_of
 ghost use Rattle.datum.specs.Cases.{shift_says, shift_answer, geoid_answer, point_answer};
 ghost use Rattle.datum.specs.Inside.{datum_answer, located, shifted_by, values_answer, is_of};
 
-use kinds::{
-    AngleShift, Height, HeightAnswer, LocalPosition, LocalPositionAnswer, Refusal,
-    Wgs84PositionAnswer,
-};
+use kinds::{AngleShift, Height, LocalPosition, Refusal, Wgs84Position};
 use tables::{Datum, Values};
 
 // The shifts of a point from its local datum to WGS 84.
@@ -30,150 +27,110 @@ impl Shifts {
         ensures { shift_says result ≡ shift values.first values.second values.third }
     {
         Shifts {
-            latitude: AngleShift::of(values.first),
-            longitude: AngleShift::of(values.second),
-            height: Height::of(values.third),
+            latitude: AngleShift::from(values.first),
+            longitude: AngleShift::from(values.second),
+            height: Height::from(values.third),
         }
     }
 }
 
+// What a datum of either family gives for a point.
 #[derive(Clone, Copy)]
-pub enum ShiftAnswer {
-    Gives(Shifts),
-    Refused(Refusal),
-}
-
-// The answer of a datum of either family.
-#[derive(Clone, Copy)]
-pub enum PointAnswer {
+pub enum Given {
     Shift(Shifts),
     Geoid(Height),
-    Refused(Refusal),
 }
 
 // The shift of a point of codes 1 to 4, by its latitude and longitude on the local datum in ms. Refused, in this order, with
 // 4 where there is no such code, 5 of a geoid datum, 3 where a coordinate is out of range, 6 outside the datum's area.
 // shift(1, 126_000_000, 118_800_000), the centre of code 1, gives -3.84288", -1.10294" and 24.430 m.
-pub fn shift(code: i64, latitude: i64, longitude: i64) -> ShiftAnswer
+pub fn shift(code: i64, latitude: i64, longitude: i64) -> Result<Shifts, Refusal>
     ensures { shift_answer result ≡ shift_of code latitude longitude }
 {
-    match asked(false, code, latitude, longitude) {
-        ValuesAnswer::Gives(values) => ShiftAnswer::Gives(Shifts::of(values)),
-        ValuesAnswer::Refused(why) => ShiftAnswer::Refused(why),
-    }
+    let values = asked(false, code, latitude, longitude)?;
+    Ok(Shifts::of(values))
 }
 
 // The geoid height of a point of codes 5 and 6, likewise; refused with 5 of a shift datum.
 // geoid(6, 82_800_000, 205_200_000), the centre of code 6, gives 7.464 m.
-pub fn geoid(code: i64, latitude: i64, longitude: i64) -> HeightAnswer
+pub fn geoid(code: i64, latitude: i64, longitude: i64) -> Result<Height, Refusal>
     ensures { geoid_answer result ≡ geoid_of code latitude longitude }
 {
-    match asked(true, code, latitude, longitude) {
-        ValuesAnswer::Gives(values) => HeightAnswer::Gives(Height::of(values.first)),
-        ValuesAnswer::Refused(why) => HeightAnswer::Refused(why),
-    }
+    let values = asked(true, code, latitude, longitude)?;
+    Ok(Height::from(values.first))
 }
 
 // The WGS 84 position of a point of codes 1 to 4, by its shift, and refused as that is.
 // wgs84(1, 126_000_000, 118_800_000), the centre of code 1, gives 125,996.15712" and 118,798.89706".
-pub fn wgs84(code: i64, latitude: i64, longitude: i64) -> Wgs84PositionAnswer
+pub fn wgs84(code: i64, latitude: i64, longitude: i64) -> Result<Wgs84Position, Refusal>
     ensures { wgs84_position result ≡ converted_of code latitude longitude }
 {
-    match shift(code, latitude, longitude) {
-        ShiftAnswer::Gives(shifts) => shifted(latitude, longitude, shifts),
-        ShiftAnswer::Refused(why) => Wgs84PositionAnswer::Refused(why),
-    }
+    let shifts = shift(code, latitude, longitude)?;
+    shifted(latitude, longitude, shifts)
 }
 
 // What the point's datum has, its shift or its geoid height: refused, in this order, with 4, 3, 6 as above, and never with 5.
-pub fn answer(code: i64, latitude: i64, longitude: i64) -> PointAnswer
+pub fn answer(code: i64, latitude: i64, longitude: i64) -> Result<Given, Refusal>
     ensures { point_answer result ≡ answer_of code latitude longitude }
 {
-    let DatumAnswer::Gives(datum) = coded(code) else {
-        return PointAnswer::Refused(Refusal::Code);
-    };
-    match located(datum, latitude, longitude) {
-        LocalPositionAnswer::Gives(position) => {
-            let values = datum.values(position);
-            if values.geoid {
-                PointAnswer::Geoid(Height::of(values.first))
-            } else {
-                PointAnswer::Shift(Shifts::of(values))
-            }
-        }
-        LocalPositionAnswer::Refused(why) => PointAnswer::Refused(why),
+    let datum = coded(code)?;
+    let position = located(datum, latitude, longitude)?;
+    let values = datum.values(position);
+    if values.geoid {
+        Ok(Given::Geoid(Height::from(values.first)))
+    } else {
+        Ok(Given::Shift(Shifts::of(values)))
     }
 }
 
 // Where shifts lead from a position; refused with 3 out of range.
-fn shifted(latitude: i64, longitude: i64, shifts: Shifts) -> Wgs84PositionAnswer
+fn shifted(latitude: i64, longitude: i64, shifts: Shifts) -> Result<Wgs84Position, Refusal>
     ensures { wgs84_position result ≡ shifted_by shifts.latitude.0 shifts.longitude.0 latitude longitude }
 {
-    let LocalPositionAnswer::Gives(position) = LocalPosition::new(latitude, longitude) else {
-        return Wgs84PositionAnswer::Refused(Refusal::Range);
-    };
-    Wgs84PositionAnswer::Gives(position.shifted(shifts.latitude, shifts.longitude))
+    let position = LocalPosition::new(latitude, longitude)?;
+    Ok(position.shifted(shifts.latitude, shifts.longitude))
 }
 
 // What the datum of a code gives for a point, where it has what is asked for: a geoid height, or a shift.
-fn asked(geoid: bool, code: i64, latitude: i64, longitude: i64) -> ValuesAnswer
+fn asked(geoid: bool, code: i64, latitude: i64, longitude: i64) -> Result<Values, Refusal>
     ensures { values_answer result ≡ asked (is_of geoid) code latitude longitude }
 {
-    let DatumAnswer::Gives(datum) = coded(code) else {
-        return ValuesAnswer::Refused(Refusal::Code);
-    };
+    let datum = coded(code)?;
     let frame = datum.frame();
-    if frame.geoid == geoid {
-        match located(datum, latitude, longitude) {
-            LocalPositionAnswer::Gives(position) => ValuesAnswer::Gives(datum.values(position)),
-            LocalPositionAnswer::Refused(why) => ValuesAnswer::Refused(why),
-        }
-    } else {
-        ValuesAnswer::Refused(Refusal::Family)
+    if frame.geoid != geoid {
+        return Err(Refusal::Family);
     }
-}
-
-#[derive(Clone, Copy)]
-enum DatumAnswer {
-    Gives(Datum),
-    Unknown,
+    let position = located(datum, latitude, longitude)?;
+    Ok(datum.values(position))
 }
 
 // The one place where a code is tested. By a match, so that no table is laid on the stack, and a call that is refused saves no
 // registers.
-fn coded(code: i64) -> DatumAnswer
+fn coded(code: i64) -> Result<Datum, Refusal>
     ensures { datum_answer result ≡ provided (is_code code) 4 (gives (page_of code)) }
 {
     match code {
-        1 => DatumAnswer::Gives(Datum::Cyprus),
-        2 => DatumAnswer::Gives(Datum::Minna),
-        3 => DatumAnswer::Gives(Datum::Alaska),
-        4 => DatumAnswer::Gives(Datum::Qatar),
-        5 => DatumAnswer::Gives(Datum::Kandawala),
-        6 => DatumAnswer::Gives(Datum::Nahrwan),
-        _ => DatumAnswer::Unknown,
+        1 => Ok(Datum::Cyprus),
+        2 => Ok(Datum::Minna),
+        3 => Ok(Datum::Alaska),
+        4 => Ok(Datum::Qatar),
+        5 => Ok(Datum::Kandawala),
+        6 => Ok(Datum::Nahrwan),
+        _ => Err(Refusal::Code),
     }
-}
-
-#[derive(Clone, Copy)]
-enum ValuesAnswer {
-    Gives(Values),
-    Refused(Refusal),
 }
 
 // A point as a position of a datum's area; refused with 3 out of range, and with 6 outside the area. It stands apart from the
 // work on the equations, which two functions call: so that the compiler leaves that work where it is, and a refusal is short.
-fn located(datum: Datum, latitude: i64, longitude: i64) -> LocalPositionAnswer
+fn located(datum: Datum, latitude: i64, longitude: i64) -> Result<LocalPosition, Refusal>
     ensures { local_position result ≡ located (datum_page datum) latitude longitude }
 {
-    let LocalPositionAnswer::Gives(position) = LocalPosition::new(latitude, longitude) else {
-        return LocalPositionAnswer::Refused(Refusal::Range);
-    };
+    let position = LocalPosition::new(latitude, longitude)?;
     let frame = datum.frame();
     let is_inside = frame.holds(position);
     if is_inside {
-        LocalPositionAnswer::Gives(position)
+        Ok(position)
     } else {
-        LocalPositionAnswer::Refused(Refusal::Area)
+        Err(Refusal::Area)
     }
 }

@@ -26,7 +26,7 @@ module _ (page : Page) (latitude longitude p q : ℤ) (told : ranged latitude lo
 pub returns-then-is_inside : goal.returns-then-is_inside
 returns-then-is_inside c =
     let page = datum_page c.args.datum in
-    let told = positioned ranged c.ranges.latitude c.ranges.longitude c.new.result c.new.ensures c.in-Gives.is in
+    let told = positioned ranged c.ranges.latitude c.ranges.longitude c.in_ok-position.ensures in
     let m = made page c.args.latitude c.args.longitude _ _ told in
     ap gives (sym m.1)
     ∙ sym (in_box_lem page c.args.latitude c.args.longitude m.0 (box page c.args.latitude c.args.longitude _ _ told _ c.frame-frame.ensures c.holds-is_inside.ensures c.if-is_inside.true))
@@ -34,6 +34,6 @@ returns-then-is_inside c =
 pub returns-else-is_inside : goal.returns-else-is_inside
 returns-else-is_inside c =
     let page = datum_page c.args.datum in
-    let told = positioned ranged c.ranges.latitude c.ranges.longitude c.new.result c.new.ensures c.in-Gives.is in
+    let told = positioned ranged c.ranges.latitude c.ranges.longitude c.in_ok-position.ensures in
     let m = made page c.args.latitude c.args.longitude _ _ told in
     sym (out_of_box page c.args.latitude c.args.longitude m.0 (box page c.args.latitude c.args.longitude _ _ told _ c.frame-frame.ensures c.holds-is_inside.ensures c.if-is_inside.false))

@@ -6,5 +6,5 @@ use Rattle.datum.proofs.shifted.Goals as goal
 pub returns : goal.returns
 returns c =
     shifted_to c.args.latitude c.args.longitude _ _
-    (positioned ranged c.ranges.latitude c.ranges.longitude c.new.result c.new.ensures c.in-Gives.is)
+    (positioned ranged c.ranges.latitude c.ranges.longitude c.in_ok-position.ensures)
     c.shifted.ensures.latitude_value c.shifted.ensures.longitude_value
