@@ -1,18 +1,12 @@
 -- The floats of the code's constants, what dividing by such a constant gives, and calls on a point. Assumes nothing.
 use mathlib.Core.Path.{◌≡◌, refl, ap, ◌∙◌}
-use mathlib.Core.List.{List}
 use Prim.Native.Nat.{ℕ}
 use lib.IntN.{ℤ, pos}
-use lib.ListN.{get_or}
 use lib.Ieee.{Float, nan, binary64, div, of_bits, of_int, round}
 use mir.Syntax.{w32, w64}
 use mir.Val.{SFits, to_z, of_z}
 use Rattle.whole.proofs.Words.{of}
-use Rattle.kinds.proofs.Calls.{came}
-use Rattle.datum.specs.Point.{values_of}
 use Rattle.floating.specs.Floats.{◌divided_by◌, per_second, per_metre, floating_of, float_zero}
-use Rattle.floating.specs.Cases.{float_answer}
-use Rattle.floating.specs.declared.Answer.{Answer}
 
 -- units in a second, mm in a metre, and 0
 pub per_second_lem : of_bits binary64 0x40F8_6A00_0000_0000 ≡ of_int binary64 (pos per_second)
@@ -31,9 +25,3 @@ no_value = refl
 pub once_divided : (units : ℕ) {constant : Float} (n m : ℤ) → constant ≡ of_int binary64 (pos units) → SFits w32 n → n ≡ m
     → div binary64 (of_int binary64 (to_z w32 (of_z w32 n))) constant ≡ m divided_by units
 once_divided units n m e fits same = λ i. div binary64 (of_int binary64 (((of fits).reads ∙ same) i)) (e i)
-
--- ---- one of the three values of a point, of its three numbers as they came
-pub value_at : (k : ℕ) {code latitude longitude : ℤ} → SFits w64 code → SFits w64 latitude → SFits w64 longitude → (given : Answer) {values : List Float}
-    → float_answer given ≡ floating_of (to_z w64 (of_z w64 code)) (to_z w64 (of_z w64 latitude)) (to_z w64 (of_z w64 longitude))
-    → values ≡ values_of float_zero (float_answer given) → get_or values k nan ≡ get_or (values_of float_zero (floating_of code latitude longitude)) k nan
-value_at k c b l given e same = ap (λ (values : List Float). get_or values k nan) (same ∙ ap (values_of float_zero) (e ∙ came c b l floating_of))

@@ -8,8 +8,8 @@ ghost use Rattle.datum.specs.Cases.{shift_says};
 ghost use Rattle.floating.specs.Floats.{seconds, metres, in_floats, floating_of, float_zero};
 ghost use Rattle.floating.specs.Cases.{floats_say, float_answer};
 
-use datum::{PointAnswer, Shifts};
-use kinds::{AngleShift, Height};
+use datum::{Given, Shifts};
+use kinds::{AngleShift, Height, Refusal};
 
 // The shifts of a point: of latitude and longitude in seconds, of height in metres.
 #[derive(Clone, Copy)]
@@ -19,24 +19,23 @@ pub struct ShiftFloats {
     pub height: f64,
 }
 
-// The answer of a datum of either family: its shifts, its geoid height in metres, or the number of the refusal.
+// What a datum of either family gives for a point: its shifts, or its geoid height in metres.
 #[derive(Clone, Copy)]
-pub enum Answer {
+pub enum GivenFloats {
     Shift(ShiftFloats),
     Geoid(f64),
-    Refused(u8),
 }
 
 // The shifts of the point or its geoid height, whichever its datum has. Refused, in this order, with 4 where there is no such
 // code, 3 where a coordinate is out of range, 6 outside the datum's area; never with 5.
 // floating(1, 126_000_000, 118_800_000), the centre of code 1, gives the floats nearest to -3.84288, -1.10294 and 24.43.
-pub fn floating(code: i64, latitude: i64, longitude: i64) -> Answer
+pub fn floating(code: i64, latitude: i64, longitude: i64) -> Result<GivenFloats, Refusal>
     ensures { float_answer result ≡ floating_of code latitude longitude }
 {
-    match datum::answer(code, latitude, longitude) {
-        PointAnswer::Shift(shifts) => Answer::Shift(ShiftFloats::of(shifts)),
-        PointAnswer::Geoid(height) => Answer::Geoid(metres(height)),
-        PointAnswer::Refused(why) => Answer::Refused(why.number()),
+    let given = datum::answer(code, latitude, longitude)?;
+    match given {
+        Given::Shift(shifts) => Ok(GivenFloats::Shift(ShiftFloats::of(shifts))),
+        Given::Geoid(height) => Ok(GivenFloats::Geoid(metres(height))),
     }
 }
 
@@ -44,21 +43,21 @@ pub fn floating(code: i64, latitude: i64, longitude: i64) -> Answer
 pub fn first(code: i64, latitude: i64, longitude: i64) -> f64
     ensures { result ≡ first_of float_zero (floating_of code latitude longitude) }
 {
-    floating(code, latitude, longitude).values()[0]
+    three(floating(code, latitude, longitude))[0]
 }
 
 // dLon in seconds; 0 of a geoid datum, and where the point is refused.
 pub fn second(code: i64, latitude: i64, longitude: i64) -> f64
     ensures { result ≡ second_of float_zero (floating_of code latitude longitude) }
 {
-    floating(code, latitude, longitude).values()[1]
+    three(floating(code, latitude, longitude))[1]
 }
 
 // dH in metres; 0 of a geoid datum, and where the point is refused.
 pub fn third(code: i64, latitude: i64, longitude: i64) -> f64
     ensures { result ≡ third_of float_zero (floating_of code latitude longitude) }
 {
-    floating(code, latitude, longitude).values()[2]
+    three(floating(code, latitude, longitude))[2]
 }
 
 // The number of the point's refusal, or 0 where it is answered.
@@ -66,22 +65,19 @@ pub fn refusal(code: i64, latitude: i64, longitude: i64) -> u8
     ensures { result ≡ refusal_of (floating_of code latitude longitude) }
 {
     match floating(code, latitude, longitude) {
-        Answer::Shift(_) => 0,
-        Answer::Geoid(_) => 0,
-        Answer::Refused(number) => number,
+        Ok(_) => 0,
+        Err(why) => why.number(),
     }
 }
 
-impl Answer {
-    // dLat, dLon and dH; or N and two zeros; or three zeros where the point is refused.
-    fn values(self) -> [f64; 3]
-        ensures { result ≡ values_of float_zero (float_answer self) }
-    {
-        match self {
-            Answer::Shift(shift) => [shift.latitude, shift.longitude, shift.height],
-            Answer::Geoid(height) => [height, 0.0, 0.0],
-            Answer::Refused(_) => [0.0, 0.0, 0.0],
-        }
+// dLat, dLon and dH; or N and two zeros; or three zeros where the point is refused.
+fn three(given: Result<GivenFloats, Refusal>) -> [f64; 3]
+    ensures { result ≡ values_of float_zero (float_answer given) }
+{
+    match given {
+        Ok(GivenFloats::Shift(shift)) => [shift.latitude, shift.longitude, shift.height],
+        Ok(GivenFloats::Geoid(height)) => [height, 0.0, 0.0],
+        Err(_) => [0.0, 0.0, 0.0],
     }
 }
 

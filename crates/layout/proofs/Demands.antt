@@ -14,15 +14,15 @@ use Rattle.whole.specs.Places.{from_places}
 use Rattle.whole.proofs.Bools.{joined, either}
 use Rattle.kinds.specs.Answer.{Answer, gives, refused, AllHold, FirstFails}
 use Rattle.kinds.specs.Kinds.{within}
-use Rattle.kinds.proofs.Answers.{first_number, number_back, rebuilt, determined}
+use Rattle.kinds.proofs.Answers.{first_number, determined}
 use Rattle.kinds.proofs.Demands as kinds
 use Rattle.numbers.specs.Numbers.{are_bytes, number}
 use Rattle.layout.specs.Sheet.{Sheet, serial, datums, codes, count, is_unit, rise, is_listed, serial_tests, count_tests, sheet_of}
 use Rattle.layout.specs.Form.{sheet_bytes, is_sheet}
 use Rattle.layout.specs.Layout.{counts, layout_answer, laid_out, read_of}
 use Rattle.layout.specs.declared.Layout.{Layout}
-use Rattle.layout.specs.declared.LayoutAnswer.{LayoutAnswer}
-use Rattle.layout.specs.declared.LayoutAnswer.TheVariants as Laid
+use Rattle.std.specs.Prelude.{Result}
+use Rattle.kinds.specs.declared.Refusal.{Refusal}
 use Rattle.layout.proofs.Codes.{six, risen, rises, listed_at, at_listed}
 use Rattle.layout.proofs.Reading.{front, in_front, serial_below, is_unit_lem, not_unit, other_unit}
 use Rattle.layout.proofs.Form as form
@@ -98,13 +98,9 @@ module _ (unit : ℤ) (bytes : List ℕ) where
       is_serial : (s : ℕ) → (s ≡ 0 → ⊥) → s < 4294967296 → within (pos 1) (pos 4294967295) (pos s) ≡ true
       is_serial s some below = joined (le-leb 1 s (one_up s some)) (le-leb s 4294967295 (omega arith))
 
--- two answers that say the same are the same
-pub layout_determined : (a b : LayoutAnswer) → layout_answer a ≡ layout_answer b → a ≡ b
-layout_determined = determined Laid.Gives Laid.Refused layout_answer back
-  where
-    back : (e : LayoutAnswer) → rebuilt Laid.Gives Laid.Refused (layout_answer e) ≡ e
-    back (Laid.Gives layout) = refl
-    back (Laid.Refused why) = ap Laid.Refused (number_back why)
+-- two results that say the same are the same
+pub layout_determined : (a b : Result Layout Refusal) → layout_answer a ≡ layout_answer b → a ≡ b
+layout_determined = determined (λ l. l) (λ l. l) (λ _. refl)
 
 -- where two are due, the first in the order of the bytes; with them units 0 and -1, and then a code listed twice and a byte that
 -- follows; and read, a sheet of all six codes and one of 7 bytes, with no datums

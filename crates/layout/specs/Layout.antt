@@ -1,14 +1,13 @@
 -- What the reading of a sheet answers: its two counts, or the first refusal before its points' codes are looked up.
-use Rattle.std.specs.Prelude.{List, ℕ, ℤ}
-use Rattle.kinds.specs.Answer.{Answer, gives, refused, number_of, in_order}
+use Rattle.std.specs.Prelude.{List, ℕ, ℤ, Result}
+use Rattle.kinds.specs.Answer.{Answer, gives, in_order}
+use Rattle.kinds.specs.Cases.{said}
+use Rattle.kinds.specs.declared.Refusal.{Refusal}
 use Rattle.layout.specs.Sheet.{datums, count, serial_tests, count_tests}
 use Rattle.layout.specs.declared.Layout.{Layout}
-use Rattle.layout.specs.declared.LayoutAnswer.{LayoutAnswer}
-use Rattle.layout.specs.declared.LayoutAnswer.TheVariants as Laid
 
-abbrev pub layout_answer : LayoutAnswer → Answer Layout
-layout_answer (Laid.Gives layout) = gives layout
-layout_answer (Laid.Refused why) = refused (number_of why)
+abbrev pub layout_answer : Result Layout Refusal → Answer Layout
+layout_answer = said
 
 abbrev pub counts : List ℕ → Layout
 counts bytes = record { datums = datums bytes; points = count bytes }

@@ -15,12 +15,6 @@ pub struct Layout {
     pub points: usize,
 }
 
-#[derive(Clone, Copy)]
-pub enum LayoutAnswer {
-    Gives(Layout),
-    Refused(Refusal),
-}
-
 const LAST_CODE: u8 = 6;
 
 // the most that a sheet may have
@@ -42,51 +36,51 @@ pub const CODES: usize = DATUMS + 1;
 
 // Tests the serial, and then the rest but for the points' codes.
 #[tactic(auto, using(crate::proofs::Reading::serial_is, crate::proofs::Reading::same_bits, crate::proofs::Reading::other_bits, crate::proofs::Reading::serial_cut, crate::proofs::Reading::serial_zero, crate::proofs::Reading::serial_foreign, crate::proofs::Reading::serial_own))]
-pub fn read(unit: i64, sheet: &[u8]) -> LayoutAnswer
+pub fn read(unit: i64, sheet: &[u8]) -> Result<Layout, Refusal>
     ensures { layout_answer result ≡ read_of unit sheet.now }
 {
     if sheet.len() < SERIAL {
-        return LayoutAnswer::Refused(Refusal::Length);
+        return Err(Refusal::Length);
     }
     let serial = numbers::four(sheet, 0);
     if serial == 0 {
-        return LayoutAnswer::Refused(Refusal::Sheet);
+        return Err(Refusal::Sheet);
     }
     if serial as i64 != unit {
-        return LayoutAnswer::Refused(Refusal::Foreign);
+        return Err(Refusal::Foreign);
     }
     laid_out(sheet)
 }
 
-fn laid_out(sheet: &[u8]) -> LayoutAnswer
+fn laid_out(sheet: &[u8]) -> Result<Layout, Refusal>
     ensures { layout_answer result ≡ laid_out sheet.now }
 {
     if sheet.len() < CODES {
-        return LayoutAnswer::Refused(Refusal::Length);
+        return Err(Refusal::Length);
     }
     let datums = numbers::one(sheet, DATUMS) as usize;
     if MOST_DATUMS < datums {
-        return LayoutAnswer::Refused(Refusal::Sheet);
+        return Err(Refusal::Sheet);
     }
     let count_at = CODES + datums;
     if sheet.len() < count_at {
-        return LayoutAnswer::Refused(Refusal::Length);
+        return Err(Refusal::Length);
     }
     if !rise(&sheet[CODES..count_at]) {
-        return LayoutAnswer::Refused(Refusal::Sheet);
+        return Err(Refusal::Sheet);
     }
     let body = count_at + COUNT;
     if sheet.len() < body {
-        return LayoutAnswer::Refused(Refusal::Length);
+        return Err(Refusal::Length);
     }
     let points = numbers::two(sheet, count_at);
     if MOST_POINTS < points {
-        return LayoutAnswer::Refused(Refusal::Sheet);
+        return Err(Refusal::Sheet);
     }
     if sheet.len() != body + points * POINT {
-        return LayoutAnswer::Refused(Refusal::Length);
+        return Err(Refusal::Length);
     }
-    LayoutAnswer::Gives(Layout { datums, points })
+    Ok(Layout { datums, points })
 }
 
 // Whether each code is above the one before, from 1 to 6: where they rise, the last is the largest.
@@ -94,14 +88,11 @@ fn rise(codes: &[u8]) -> bool
     ensures { result ≡ rise 0 codes.now }
 {
     let mut before = 0;
-    let mut i = 0;
-    while i < codes.len() {
-        let code = codes[i];
+    for &code in codes {
         if code <= before {
             return false;
         }
         before = code;
-        i += 1;
     }
     before <= LAST_CODE
 }

@@ -4,13 +4,10 @@ use Rattle.layout.proofs.rise.Goals as goal
 
 pub returns-then-code-before : goal.returns-then-code-before
 returns-then-code-before c =
-    rise_stops c.loop-i.before c.loop-i.i _ c.loop-i-test.true c.if-code-before.true ∙ c.loop-i.invariant.on
+    rise_stops c.loop-code.before c.loop-code.code-index _ c.loop-code-test.true c.if-code-before.true ∙ c.loop-code.invariant
 
-pub loop-i-preserved : goal.loop-i-preserved
-loop-i-preserved c = record {
-  inside = omega (arith, c.loop-i-test.true);
-  on = rise_goes c.loop-i.before c.loop-i.i _ c.loop-i-test.true c.if-code-before.false ∙ c.loop-i.invariant.on;
-}
+pub loop-code-preserved : goal.loop-code-preserved
+loop-code-preserved c = rise_goes c.loop-code.before c.loop-code.code-index _ c.loop-code-test.true c.if-code-before.false ∙ c.loop-code.invariant
 
 pub returns : goal.returns
-returns c = rise_ends c.loop-i.before c.loop-i.i _ c.loop-i-test.false ∙ c.loop-i.invariant.on
+returns c = rise_ends c.loop-code.before c.loop-code.code-index _ (omega (arith, c.loop-code-test.false)) ∙ c.loop-code.invariant
