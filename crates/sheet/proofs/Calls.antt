@@ -18,17 +18,16 @@ use Rattle.whole.proofs.Every.{every_same}
 use Rattle.whole.proofs.Words.{of}
 use Rattle.whole.specs.Every.{every}
 use Rattle.whole.specs.Places.{in_places}
-use Rattle.kinds.specs.Answer.{gives, refused, in_order, placed, counted, lent}
+use Rattle.kinds.specs.Answer.{Answer, gives, refused, in_order, placed, counted, lent}
 use Rattle.kinds.proofs.Answers.{failed, own_or_behind, all_held, held, first_or_behind, first_failed, fails, in_two, following_tests}
 use Rattle.kinds.proofs.Bytes.{at, length_part}
 use Rattle.numbers.specs.Numbers.{are_bytes, in_bytes}
 use Rattle.numbers.proofs.Numbers.{part_back}
 use Rattle.layout.specs.Sheet.{serial, datums, codes, count, body, point, points, pieces, is_listed, serial_tests, listed_tests, said}
-use Rattle.layout.specs.Layout.{counts, layout_answer, laid_out, read_of}
+use Rattle.layout.specs.Layout.{counts, laid_out, read_of}
 use Rattle.sheet.specs.Result.{in_record, answer_at, result_of, work_of}
 use Rattle.sheet.specs.Inside.{flags, all_flagged, point_record, records, finished}
 use Rattle.layout.specs.declared.Layout.{Layout}
-use Rattle.layout.specs.declared.LayoutAnswer.{LayoutAnswer}
 use Rattle.sheet.proofs.Codes.{flagged}
 use Rattle.layout.proofs.Form.{points_counted}
 use Rattle.layout.proofs.Reading.{Laid, serial_bytes, codes_are, front, in_front}
@@ -143,8 +142,8 @@ module _ (t : List ℕ) {layout : Layout} (l : Laid t layout) where
 
 -- ---- any sheet
 -- what `read` answers of the unit's number as it came
-pub read_told : {unit : ℤ} (t : List ℕ) {given case : LayoutAnswer} → SFits w64 unit → layout_answer given ≡ read_of (to_z w64 (of_z w64 unit)) t → given ≡ case → read_of unit t ≡ layout_answer case
-read_told t fits e same = ap (λ (z : ℤ). read_of z t) (sym (of fits).reads) ∙ sym e ∙ ap layout_answer same
+pub read_told : {unit : ℤ} (t : List ℕ) {a : Answer Layout} → SFits w64 unit → a ≡ read_of (to_z w64 (of_z w64 unit)) t → read_of unit t ≡ a
+read_told t fits e = ap (λ (z : ℤ). read_of z t) (sym (of fits).reads) ∙ sym e
 
 module _ (unit : ℤ) (t : List ℕ) (room : ℕ) where
   work_front : work_of unit t room ≡ in_order (front unit t) (finished t room)

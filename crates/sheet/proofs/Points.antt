@@ -12,16 +12,15 @@ use mir.Val.{SFits, to_z, of_z}
 use Rattle.whole.proofs.Words.{of, from_unsigned}
 use Rattle.whole.specs.Every.{every}
 use Rattle.whole.specs.Places.{in_places}
-use Rattle.kinds.specs.Answer.{number_of}
+use Rattle.kinds.specs.Answer.{Answer, gives, refused, number_of}
 use Rattle.kinds.specs.Bytes.{part}
 use Rattle.kinds.specs.declared.Height.{Height}
 use Rattle.kinds.specs.declared.Refusal.{Refusal}
 use Rattle.kinds.proofs.Bytes.{at}
 use Rattle.datum.specs.Point.{answer_of}
-use Rattle.datum.specs.Cases.{point_answer}
+use Rattle.datum.specs.Cases.{shift_says, geoid_says}
 use Rattle.datum.specs.declared.Shifts.{Shifts}
-use Rattle.datum.specs.declared.PointAnswer.{PointAnswer}
-use Rattle.datum.specs.declared.PointAnswer.TheVariants as Said
+use Rattle.tables.specs.Page.{Family}
 use Rattle.numbers.specs.Numbers.{number, in_bytes, complement, signed}
 use Rattle.layout.specs.Sheet.{point, pieces}
 use Rattle.sheet.specs.Result.{in_record}
@@ -47,15 +46,15 @@ record_is refusal x y z a b c p q r = λ i.
     refusal ∷ at (p i) 0 ∷ at (p i) 1 ∷ at (p i) 2 ∷ at (p i) 3 ∷ at (q i) 0 ∷ at (q i) 1 ∷ at (q i) 2 ∷ at (q i) 3 ∷ at (r i) 0 ∷ at (r i) 1 ∷ at (r i) 2 ∷ at (r i) 3 ∷ []
 
 -- the three cases of an answer
-pub shift_record : (s : Shifts) → record_of 0 s.latitude.0 s.longitude.0 s.height.0 ≡ in_record (point_answer (Said.Shift s))
+pub shift_record : (s : Shifts) → record_of 0 s.latitude.0 s.longitude.0 s.height.0 ≡ in_record (gives (shift_says s))
 unfolding record_of in_record
 shift_record s = refl
 
-pub geoid_record : (n : Height) → record_of 0 n.0 (pos 0) (pos 0) ≡ in_record (point_answer (Said.Geoid n))
+pub geoid_record : (n : Height) → record_of 0 n.0 (pos 0) (pos 0) ≡ in_record (gives (geoid_says n))
 unfolding record_of in_record
 geoid_record n = refl
 
-pub refused_record : (r : Refusal) → record_of (number_of r) (pos 0) (pos 0) (pos 0) ≡ in_record (point_answer (Said.Refused r))
+pub refused_record : (r : Refusal) → record_of (number_of r) (pos 0) (pos 0) (pos 0) ≡ in_record (refused (number_of r))
 unfolding record_of in_record
 refused_record r = refl
 
@@ -64,13 +63,12 @@ module _ (t : List ℕ) {code longitude : ℕ} {latitude : ℤ}
     (coded : code ≡ number (part 0 1 t)) (one : code < 256)
     (is-latitude : latitude ≡ signed (number (part 1 4 t))) (fits : SFits w64 latitude)
     (is-longitude : longitude ≡ number (part 5 4 t)) (four : longitude < 4294967296) where
-  pub point_record_is : {given case : PointAnswer} → point_answer given ≡ answer_of (to_z w64 code) (to_z w64 (of_z w64 latitude)) (to_z w64 longitude) → given ≡ case
-      → in_record (point_answer case) ≡ point_record t
+  pub point_record_is : {a : Answer (Family ℤ)} → a ≡ answer_of (to_z w64 code) (to_z w64 (of_z w64 latitude)) (to_z w64 longitude) → in_record a ≡ point_record t
   unfolding point_record point
-  point_record_is e same =
+  point_record_is e =
       let c : to_z w64 code ≡ pos (number (part 0 1 t)) = (from_unsigned {w = w64} {n = code} (omega arith)).reads ∙ ap pos coded in
       let l : to_z w64 longitude ≡ pos (number (part 5 4 t)) = (from_unsigned {w = w64} {n = longitude} (omega arith)).reads ∙ ap pos is-longitude in
-      ap in_record (ap point_answer (sym same) ∙ e ∙ (λ i. answer_of (c i) (((of fits).reads ∙ is-latitude) i) (l i)))
+      ap in_record (e ∙ (λ i. answer_of (c i) (((of fits).reads ∙ is-latitude) i) (l i)))
 
 -- ---- whether each code is flagged
 module _ (flags : List Bool) (n i : ℕ) (body : List ℕ) where

@@ -10,23 +10,21 @@ ghost use Rattle.layout.specs.Layout.{laid_out};
 ghost use Rattle.sheet.specs.Result.{record_length, work_of};
 ghost use Rattle.sheet.specs.Inside.{flags, all_flagged, record_of, point_record, records, finished};
 
-use datum::PointAnswer;
-use kinds::{Refusal, WrittenAnswer};
-use layout::{Layout, LayoutAnswer};
+use datum::Given;
+use kinds::Refusal;
+use layout::Layout;
 
 // Works the sheet of a unit: writes the result to the start of a lent buffer and says how many bytes, 6 and 13 for each point.
 // Refused, in the order of the sheet's bytes: 1 where it is cut or bytes follow, 9 where its serial is zero, a count is over
 // its limit or the codes are wrong, 8 where it is another unit's; then 9 where a point's code is not listed, 7 where the result
 // has no room. A point that is out of range or outside its area does not refuse the sheet: the result has its number.
 // A unit whose own number is not 1 to 4294967295 is given 8 for any sheet with a serial.
-pub fn work(unit: i64, sheet: &[u8], res: &mut [u8]) -> WrittenAnswer
+pub fn work(unit: i64, sheet: &[u8], res: &mut [u8]) -> Result<usize, Refusal>
     ensures result_value { written result ≡ counted (work_of unit sheet.now (length res.old)) }
     ensures res_after { res.new ≡ lent (work_of unit sheet.now (length res.old)) res.old }
 {
-    match layout::read(unit, sheet) {
-        LayoutAnswer::Gives(layout) => finished(layout, sheet, res),
-        LayoutAnswer::Refused(why) => WrittenAnswer::Refused(why),
-    }
+    let layout = layout::read(unit, sheet)?;
+    finished(layout, sheet, res)
 }
 
 // in bytes: the start of a result, and a point's record in it
@@ -83,14 +81,14 @@ fn point_record(point: &[u8]) -> [u8; 13]
     let latitude = numbers::signed(numbers::four(point, 1));
     let longitude = numbers::four(point, 5) as i64;
     match datum::answer(numbers::one(point, 0) as i64, latitude, longitude) {
-        PointAnswer::Shift(shifts) => in_record(
+        Ok(Given::Shift(shifts)) => in_record(
             0,
             shifts.latitude.units(),
             shifts.longitude.units(),
             shifts.height.mm(),
         ),
-        PointAnswer::Geoid(height) => in_record(0, height.mm(), 0, 0),
-        PointAnswer::Refused(why) => in_record(why.number(), 0, 0, 0),
+        Ok(Given::Geoid(height)) => in_record(0, height.mm(), 0, 0),
+        Err(why) => in_record(why.number(), 0, 0, 0),
     }
 }
 
@@ -124,7 +122,7 @@ fn put(serial: &[u8], count: &[u8], body: &[u8], points: usize, res: &mut [u8])
 }
 
 // The rest of the work on a sheet that passed the tests of `read`.
-fn finished(layout: Layout, sheet: &[u8], res: &mut [u8]) -> WrittenAnswer
+fn finished(layout: Layout, sheet: &[u8], res: &mut [u8]) -> Result<usize, Refusal>
     requires { laid_out sheet.now ≡ gives layout }
     ensures result_value { written result ≡ counted (finished sheet.now (length res.old)) }
     ensures res_after { res.new ≡ lent (finished sheet.now (length res.old)) res.old }
@@ -136,12 +134,12 @@ fn finished(layout: Layout, sheet: &[u8], res: &mut [u8]) -> WrittenAnswer
     let body = &sheet[body_at..];
     let all = all_listed(body, points, listed(&sheet[layout::CODES..count_at]));
     if !all {
-        return WrittenAnswer::Refused(Refusal::Sheet);
+        return Err(Refusal::Sheet);
     }
     if res.len() < bytes {
-        return WrittenAnswer::Refused(Refusal::Room);
+        return Err(Refusal::Room);
     }
     let serial = &sheet[..layout::SERIAL];
     put(serial, &sheet[count_at..body_at], body, points, res);
-    WrittenAnswer::Gives(bytes)
+    Ok(bytes)
 }

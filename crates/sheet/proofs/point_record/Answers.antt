@@ -13,26 +13,26 @@ use Rattle.sheet.proofs.point_record.Goals as goal
 field : {n m : ℤ} → mag n < 2 ^ hbits w32 → n ≡ m → to_z w32 (of_z w32 n) ≡ m
 field h e = (of {w = w32} (record { sfits = h })).reads ∙ e
 
-pub returns-in-Shift : goal.returns-in-Shift
-returns-in-Shift c =
+pub returns-in-Ok-Shift : goal.returns-in-Ok-Shift
+returns-in-Ok-Shift c =
     c.in_record.ensures
-    ∙ (λ i. record_of 0 (field c.units.type_inv c.units.ensures i) (field c.units-in-Shift.type_inv c.units-in-Shift.ensures i) (field c.mm.type_inv c.mm.ensures i))
+    ∙ (λ i. record_of 0 (field c.units.type_inv c.units.ensures i) (field c.units-in-Ok-Shift.type_inv c.units-in-Ok-Shift.ensures i) (field c.mm.type_inv c.mm.ensures i))
     ∙ shift_record _
     ∙ point_record_is _ c.one.ensures.value c.one.ensures.upper_bound (c.signed-latitude.ensures ∙ ap signed c.four.ensures) (record { sfits = c.signed-latitude.type_inv })
-    c.four-longitude.ensures c.four-longitude.type_inv c.answer.ensures c.in-Shift.is
+    c.four-longitude.ensures c.four-longitude.type_inv (rw c.in-Ok-Shift.field-0-is at c.in-Ok-Shift.ensures)
 
-pub returns-in-Geoid : goal.returns-in-Geoid
-returns-in-Geoid c =
-    c.in_record-in-Geoid.ensures
-    ∙ ap (λ (x : ℤ). record_of 0 x (pos 0) (pos 0)) (field c.mm-in-Geoid.type_inv c.mm-in-Geoid.ensures)
+pub returns-in-Ok-Geoid : goal.returns-in-Ok-Geoid
+returns-in-Ok-Geoid c =
+    c.in_record-in-Ok-Geoid.ensures
+    ∙ ap (λ (x : ℤ). record_of 0 x (pos 0) (pos 0)) (field c.mm-in-Ok-Geoid.type_inv c.mm-in-Ok-Geoid.ensures)
     ∙ geoid_record _
     ∙ point_record_is _ c.one.ensures.value c.one.ensures.upper_bound (c.signed-latitude.ensures ∙ ap signed c.four.ensures) (record { sfits = c.signed-latitude.type_inv })
-    c.four-longitude.ensures c.four-longitude.type_inv c.answer.ensures c.in-Geoid.is
+    c.four-longitude.ensures c.four-longitude.type_inv (rw c.in-Ok-Geoid.field-0-is at c.in-Ok-Geoid.ensures)
 
-pub returns-in-Refused : goal.returns-in-Refused
-returns-in-Refused c =
-    c.in_record-in-Refused.ensures
+pub returns-in-Err : goal.returns-in-Err
+returns-in-Err c =
+    c.in_record-in-Err.ensures
     ∙ ap (λ (n : ℕ). record_of n (pos 0) (pos 0) (pos 0)) c.number.ensures
-    ∙ refused_record c.in-Refused.why
+    ∙ refused_record c.in-Err.why
     ∙ point_record_is _ c.one.ensures.value c.one.ensures.upper_bound (c.signed-latitude.ensures ∙ ap signed c.four.ensures) (record { sfits = c.signed-latitude.type_inv })
-    c.four-longitude.ensures c.four-longitude.type_inv c.answer.ensures c.in-Refused.is
+    c.four-longitude.ensures c.four-longitude.type_inv c.in-Err.ensures
