@@ -12,11 +12,7 @@ use Rattle.kinds.proofs.Writing.{Written}
 use Rattle.position.specs.Text.{latitude, longitude, letter, angle, in_sixties, no_zero_south, has_text, right_ranges}
 use Rattle.tables.specs.Page.{Family}
 use Rattle.tables.specs.Rule.{worked}
-use Rattle.kinds.specs.Cases.{wgs84_position}
-use Rattle.kinds.specs.declared.Wgs84PositionAnswer.{Wgs84PositionAnswer}
 use Rattle.datum.specs.Point.{answer_of, converted_of, page_of}
-use Rattle.datum.specs.Cases.{point_answer}
-use Rattle.datum.specs.declared.PointAnswer.{PointAnswer}
 use Rattle.waypoint.specs.Waypoint.{element_of}
 use Rattle.line.specs.Line.{line_feed, code, latitude_text, longitude_text, latitude_of, longitude_of, line_ranges, text_tests, place_tests, answer_to, answer_line, line_of, element_to, line_in}
 use Rattle.line.specs.Inside.{Said, point_said, answered_of, waypoint_put, answered_in}
@@ -25,23 +21,23 @@ use Rattle.line.specs.declared.Form.TheVariants.{Numbers, Waypoints}
 
 -- ---- a place, whose numbers the code holds as c, n and e
 module _ (said : Said) {c n e : ℤ} (is_c : c ≡ said.code) (is-n : n ≡ said.latitude) (is-e : e ≡ said.longitude) where
-  answer_is : {given case : PointAnswer} → point_answer given ≡ answer_of c n e → given ≡ case → answer_of said.code said.latitude said.longitude ≡ point_answer case
-  answer_is h same = (λ i. answer_of (sym is_c i) (sym is-n i) (sym is-e i)) ∙ sym h ∙ ap point_answer same
+  answer_is : {a : Answer (Family ℤ)} → a ≡ answer_of c n e → answer_of said.code said.latitude said.longitude ≡ a
+  answer_is h = (λ i. answer_of (sym is_c i) (sym is-n i) (sym is-e i)) ∙ sym h
 
-  pub value_answered : {given case : PointAnswer} (v : Family ℤ) (out : List ℕ) {a : Answer ℕ} {l : List ℕ} → point_answer given ≡ answer_of c n e → given ≡ case → point_answer case ≡ gives v
+  pub value_answered : {v : Family ℤ} (out : List ℕ) {a : Answer ℕ} {l : List ℕ} → gives v ≡ answer_of c n e
       → Written (placed (answer_line v) (length out)) out a l → Written (answered_of said (length out)) out a l
   unfolding answered_of
-  value_answered v out h same is-v w =
-      let e = ap (λ (x : Answer (Family ℤ)). following x (λ values. placed (answer_line values) (length out))) (sym (answer_is h same ∙ is-v)) in
+  value_answered out h w =
+      let e = ap (λ (x : Answer (Family ℤ)). following x (λ values. placed (answer_line values) (length out))) (sym (answer_is h)) in
       (w.0 ∙ ap counted e, w.1 ∙ ap (λ (x : Answer (List ℕ)). lent x out) e)
 
-  pub point_refused : {given case : PointAnswer} (out : List ℕ) {m : ℕ} → point_answer given ≡ answer_of c n e → given ≡ case → point_answer case ≡ refused m → Written (answered_of said (length out)) out (refused m) out
+  pub point_refused : (out : List ℕ) {m : ℕ} → refused m ≡ answer_of c n e → Written (answered_of said (length out)) out (refused m) out
   unfolding answered_of
-  point_refused out h same is_m = rw (answer_is h same ∙ is_m) (refl, refl)
+  point_refused out h = rw (answer_is h) (refl, refl)
 
   -- its position, likewise
-  pub position_is : {given case : Wgs84PositionAnswer} → wgs84_position given ≡ converted_of c n e → given ≡ case → wgs84_position case ≡ converted_of said.code said.latitude said.longitude
-  position_is h same = ap wgs84_position (sym same) ∙ h ∙ (λ i. converted_of (is_c i) (is-n i) (is-e i))
+  pub position_is : {a : Answer (ℤ × ℤ)} → a ≡ converted_of c n e → a ≡ converted_of said.code said.latitude said.longitude
+  position_is h = h ∙ (λ i. converted_of (is_c i) (is-n i) (is-e i))
 
 -- ---- a line
 -- of texts in range, a point's answer is that of the page, 4 and then 6

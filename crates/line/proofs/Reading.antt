@@ -13,17 +13,21 @@ use mir.Val.{to_z}
 use Rattle.whole.specs.Digits.{is_digit, digit_of}
 use Rattle.whole.proofs.Bools.{both}
 use Rattle.whole.proofs.Words.{Holds, from_unsigned}
-use Rattle.kinds.specs.Answer.{Answer, gives, refused, provided, ◌else◌, refusal_of}
+use Rattle.kinds.specs.Answer.{Answer, gives, refused, provided, ◌else◌, following, refusal_of}
 use Rattle.kinds.proofs.Answers.{not_both, same_value, passed, following_tests}
 use Rattle.kinds.proofs.Bytes.{length_part}
 use Rattle.position.specs.Text.{latitude, longitude, right_kinds, right_ranges, value, read}
 use Rattle.position.proofs.Reading.{right_length}
 use Rattle.line.specs.Line.{space, code_byte, latitude_text, longitude_text, code}
-use Rattle.line.specs.Inside.{Said, point_said, with_longitude, first_refusal}
+use Rattle.line.specs.Inside.{Said, point_said, first_refusal}
 
 -- ---- a coordinate by its tests: of its kinds and of its ranges
 abbrev tested : Bool → Bool → ℤ → Answer ℤ
 tested kinds ranges x = provided kinds 2 (provided ranges 3 (gives x))
+
+-- of a latitude that was read, and a longitude's answer
+abbrev with_longitude : ℤ → ℤ → Answer ℤ → Answer Said
+with_longitude code north read = following read (λ east. gives (record { code = code; latitude = north; longitude = east }))
 
 -- both together: the latitude was read, or it was refused
 module _ (code north east : ℤ) where

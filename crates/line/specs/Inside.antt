@@ -1,14 +1,14 @@
 -- What the private functions of this crate promise one another.
-use Rattle.std.specs.Prelude.{cond, List, [], ◌∷◌, ◌++◌, ℕ, ltb, ℤ}
-use Rattle.kinds.specs.Answer.{Answer, gives, refused, number_of, in_order, placed, following}
+use Rattle.std.specs.Prelude.{cond, List, [], ◌∷◌, ◌++◌, ℕ, ltb, ℤ, Result}
+use Rattle.kinds.specs.Answer.{Answer, gives, refused, in_order, placed, following}
+use Rattle.kinds.specs.Cases.{answered}
+use Rattle.kinds.specs.declared.Refusal.{Refusal}
 use Rattle.datum.specs.Point.{answer_of}
 use Rattle.waypoint.specs.Waypoint.{element_of}
 use Rattle.line.specs.Line.{line_feed, code, latitude_of, longitude_of, text_tests, answer_line}
 use Rattle.line.specs.declared.Form.{Form}
 use Rattle.line.specs.declared.Form.TheVariants.{Numbers, Waypoints}
 use Rattle.line.specs.declared.Place.{Place}
-use Rattle.line.specs.declared.PlaceAnswer.{PlaceAnswer}
-use Rattle.line.specs.declared.PlaceAnswer.TheVariants as Read
 
 -- ---- reading
 -- a code, a latitude and a longitude
@@ -20,16 +20,11 @@ pub record Said : Type 0 where
 abbrev pub place_says : Place → Said
 place_says place = record { code = place.code; latitude = place.latitude.0; longitude = place.longitude.0 }
 
-abbrev pub place_answer : PlaceAnswer → Answer Said
-place_answer (Read.Gives place) = gives (place_says place)
-place_answer (Read.Refused why) = refused (number_of why)
+abbrev pub place_answer : Result Place Refusal → Answer Said
+place_answer = answered place_says
 
 unfoldable pub point_said : List ℕ → Answer Said
 point_said line = in_order (text_tests line) (gives (record { code = code line; latitude = latitude_of line; longitude = longitude_of line }))
-
--- of a latitude that was read, and a longitude's answer
-abbrev pub with_longitude : ℤ → ℤ → Answer ℤ → Answer Said
-with_longitude code latitude longitude = following longitude (λ east. gives (record { code = code; latitude = latitude; longitude = east }))
 
 -- of a latitude that was refused: the lower number
 abbrev pub first_refusal : ℕ → Answer ℤ → ℕ

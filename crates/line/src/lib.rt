@@ -3,26 +3,23 @@
 
 ghost use Rattle.std.specs.Prelude.{◌≡◌, [], ◌∷◌, ◌++◌, ◌+◌, ◌≤◌, length, drop};
 ghost use Rattle.kinds.specs.Answer.{number_of, placed, counted, lent};
-ghost use Rattle.kinds.specs.Cases.{local_longitude, written};
+ghost use Rattle.kinds.specs.Cases.{written};
 ghost use Rattle.position.specs.Text.{longitude, read};
 ghost use Rattle.datum.specs.Cases.{shift_says, geoid_says};
 ghost use Rattle.waypoint.specs.Waypoint.{element};
 ghost use Rattle.waypoint.specs.Inside.{Printable};
 ghost use Rattle.line.specs.Line.{line_feed, answer_line, line_of, line_in};
-ghost use Rattle.line.specs.Inside.{place_says, place_answer, point_said, with_longitude, first_refusal, answered_of, waypoint_put, answered_in};
+ghost use Rattle.line.specs.Inside.{place_says, place_answer, point_said, first_refusal, answered_of, waypoint_put, answered_in};
 
-use datum::{PointAnswer, Shifts};
+use datum::{Given, Shifts};
 use decimal::number_and;
-use kinds::{
-    Height, LocalLatitude, LocalLatitudeAnswer, LocalLongitude, LocalLongitudeAnswer, Refusal,
-    Wgs84Position, Wgs84PositionAnswer, WrittenAnswer, put,
-};
+use kinds::{Height, LocalLatitude, LocalLongitude, Refusal, Wgs84Position, put};
 use waypoint::ELEMENT;
 
 // Answers the line whose bytes before the line feed are text: `1 350000.000N 0330000.000E` gives `-384288 -110294 24430` and a
 // line feed, at the start of out, and how many bytes these are. Refused, in this order: 1 another length than 26, 2 a byte that
 // is not of its kind, 3 a coordinate out of range, 4 no such code, 6 outside its datum's area, 7 out is shorter than these bytes.
-pub fn line(text: &[u8], out: &mut [u8]) -> WrittenAnswer
+pub fn line(text: &[u8], out: &mut [u8]) -> Result<usize, Refusal>
     ensures result_value { written result ≡ counted (line_of text.now (length out.old)) }
     ensures out_after { out.new ≡ lent (line_of text.now (length out.old)) out.old }
 {
@@ -38,14 +35,12 @@ pub enum Form {
 
 // Answers a line in a form. `1 350000.000N 0330000.000E` gives the waypoint `<wpt lat="34.998932533" lon="32.999693628"/>` and a
 // line feed; refused as above, but with 5 of a geoid datum, between 4 and 6.
-pub fn line_in(form: Form, text: &[u8], out: &mut [u8]) -> WrittenAnswer
+pub fn line_in(form: Form, text: &[u8], out: &mut [u8]) -> Result<usize, Refusal>
     ensures result_value { written result ≡ counted (line_in form text.now (length out.old)) }
     ensures out_after { out.new ≡ lent (line_in form text.now (length out.old)) out.old }
 {
-    match read(text) {
-        PlaceAnswer::Gives(place) => answered(form, place, out),
-        PlaceAnswer::Refused(why) => WrittenAnswer::Refused(why),
-    }
+    let place = read(text)?;
+    answered(form, place, out)
 }
 
 // bytes of a line in, before its line feed
@@ -65,52 +60,28 @@ struct Place {
     longitude: LocalLongitude,
 }
 
-#[derive(Clone, Copy)]
-enum PlaceAnswer {
-    Gives(Place),
-    Refused(Refusal),
-}
-
 // Reads a line, whatever its code and its place.
 #[tactic(auto, using(crate::proofs::Reading::wrong_length))]
-fn read(text: &[u8]) -> PlaceAnswer
+fn read(text: &[u8]) -> Result<Place, Refusal>
     ensures { place_answer result ≡ point_said text.now }
 {
     if text.len() != LINE {
-        return PlaceAnswer::Refused(Refusal::Length);
+        return Err(Refusal::Length);
     }
     let code = text[0];
     if !((b'0' <= code) & (code <= b'9') & (text[1] == b' ') & (text[13] == b' ')) {
-        return PlaceAnswer::Refused(Refusal::Kind);
+        return Err(Refusal::Kind);
     }
     match position::read_latitude(&text[2..13]) {
-        LocalLatitudeAnswer::Gives(latitude) => with_longitude(
-            (code - b'0') as i64,
-            latitude,
-            position::read_longitude(&text[14..26]),
-        ),
-        LocalLatitudeAnswer::Refused(why) => PlaceAnswer::Refused(first_refusal(
-            why,
-            &text[14..26],
-        )),
-    }
-}
-
-// Of a line whose latitude was read.
-fn with_longitude(
-    code: i64,
-    latitude: LocalLatitude,
-    longitude: LocalLongitudeAnswer,
-) -> PlaceAnswer
-    ensures { place_answer result ≡ with_longitude code latitude.0 (local_longitude longitude) }
-{
-    match longitude {
-        LocalLongitudeAnswer::Gives(longitude) => PlaceAnswer::Gives(Place {
-            code,
-            latitude,
-            longitude,
-        }),
-        LocalLongitudeAnswer::Refused(why) => PlaceAnswer::Refused(why),
+        Ok(latitude) => {
+            let longitude = position::read_longitude(&text[14..26])?;
+            Ok(Place {
+                code: (code - b'0') as i64,
+                latitude,
+                longitude,
+            })
+        }
+        Err(why) => Err(first_refusal(why, &text[14..26])),
     }
 }
 
@@ -121,10 +92,10 @@ fn first_refusal(latitude: Refusal, text: &[u8]) -> Refusal
     requires { length text.now ≡ 12 }
     ensures { number_of result ≡ first_refusal (number_of latitude) (read longitude text.now) }
 {
-    if let Refusal::Kind = latitude {
+    if latitude == Refusal::Kind {
         return latitude;
     }
-    if let LocalLongitudeAnswer::Refused(why) = position::read_longitude(text) {
+    if let Err(why) = position::read_longitude(text) {
         if why.number() < latitude.number() {
             return why;
         }
@@ -133,7 +104,7 @@ fn first_refusal(latitude: Refusal, text: &[u8]) -> Refusal
 }
 
 // Answers the point of a line that was read.
-fn answered(form: Form, place: Place, out: &mut [u8]) -> WrittenAnswer
+fn answered(form: Form, place: Place, out: &mut [u8]) -> Result<usize, Refusal>
     ensures result_value { written result ≡ counted (answered_in form (place_says place) (length out.old)) }
     ensures out_after { out.new ≡ lent (answered_in form (place_says place) (length out.old)) out.old }
 {
@@ -143,21 +114,19 @@ fn answered(form: Form, place: Place, out: &mut [u8]) -> WrittenAnswer
     }
 }
 
-fn converted(place: Place, out: &mut [u8]) -> WrittenAnswer
+fn converted(place: Place, out: &mut [u8]) -> Result<usize, Refusal>
     ensures result_value { written result ≡ counted (waypoint_put (place_says place) (length out.old)) }
     ensures out_after { out.new ≡ lent (waypoint_put (place_says place) (length out.old)) out.old }
 {
-    match datum::wgs84(
+    let position = datum::wgs84(
         place.code,
         place.latitude.ms() as i64,
         place.longitude.ms() as i64,
-    ) {
-        Wgs84PositionAnswer::Gives(position) => put_waypoint(position, out),
-        Wgs84PositionAnswer::Refused(why) => WrittenAnswer::Refused(why),
-    }
+    )?;
+    put_waypoint(position, out)
 }
 
-fn put_waypoint(position: Wgs84Position, out: &mut [u8]) -> WrittenAnswer
+fn put_waypoint(position: Wgs84Position, out: &mut [u8]) -> Result<usize, Refusal>
     requires { Printable position.latitude.0 position.longitude.0 }
     ensures result_value { written result ≡ counted (placed (element position.latitude.0 position.longitude.0 ++ line_feed ∷ []) (length out.old)) }
     ensures out_after { out.new ≡ lent (placed (element position.latitude.0 position.longitude.0 ++ line_feed ∷ []) (length out.old)) out.old }
@@ -169,22 +138,22 @@ fn put_waypoint(position: Wgs84Position, out: &mut [u8]) -> WrittenAnswer
     put(&text[..count], out)
 }
 
-fn in_numbers(place: Place, out: &mut [u8]) -> WrittenAnswer
+fn in_numbers(place: Place, out: &mut [u8]) -> Result<usize, Refusal>
     ensures result_value { written result ≡ counted (answered_of (place_says place) (length out.old)) }
     ensures out_after { out.new ≡ lent (answered_of (place_says place) (length out.old)) out.old }
 {
-    match datum::answer(
+    let given = datum::answer(
         place.code,
         place.latitude.ms() as i64,
         place.longitude.ms() as i64,
-    ) {
-        PointAnswer::Shift(shifts) => put_shift(shifts, out),
-        PointAnswer::Geoid(height) => put_geoid(height, out),
-        PointAnswer::Refused(why) => WrittenAnswer::Refused(why),
+    )?;
+    match given {
+        Given::Shift(shifts) => put_shift(shifts, out),
+        Given::Geoid(height) => put_geoid(height, out),
     }
 }
 
-fn put_shift(shifts: Shifts, out: &mut [u8]) -> WrittenAnswer
+fn put_shift(shifts: Shifts, out: &mut [u8]) -> Result<usize, Refusal>
     ensures result_value { written result ≡ counted (placed (answer_line (shift_says shifts)) (length out.old)) }
     ensures out_after { out.new ≡ lent (placed (answer_line (shift_says shifts)) (length out.old)) out.old }
 {
@@ -193,7 +162,7 @@ fn put_shift(shifts: Shifts, out: &mut [u8]) -> WrittenAnswer
     put(&line[..end], out)
 }
 
-fn put_geoid(height: Height, out: &mut [u8]) -> WrittenAnswer
+fn put_geoid(height: Height, out: &mut [u8]) -> Result<usize, Refusal>
     ensures result_value { written result ≡ counted (placed (answer_line (geoid_says height)) (length out.old)) }
     ensures out_after { out.new ≡ lent (placed (answer_line (geoid_says height)) (length out.old)) out.old }
 {

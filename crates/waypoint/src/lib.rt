@@ -9,9 +9,7 @@ ghost use Rattle.waypoint.specs.Waypoint.{degrees, east_or_west, element, waypoi
 ghost use Rattle.waypoint.specs.Inside.{Printable};
 
 use decimal::nine_places;
-use kinds::{
-    Wgs84Latitude, Wgs84Longitude, Wgs84Position, Wgs84PositionAnswer, WrittenAnswer, put,
-};
+use kinds::{Refusal, Wgs84Latitude, Wgs84Longitude, Wgs84Position, put};
 
 // the most bytes of an element
 pub const ELEMENT: usize = 47;
@@ -23,17 +21,20 @@ const HALF_TURN: i64 = 180_000_000_000;
 // nothing but the element, with no line feed. Refused, in this order, with 4 where there is no such code, 5 of a geoid datum, 3
 // where a coordinate is out of range, 6 outside the datum's area, 7 where out is shorter than the element.
 // waypoint(1, 126_000_000, 118_800_000, out), the centre of code 1, writes `<wpt lat="34.998932533" lon="32.999693628"/>`.
-pub fn waypoint(code: i64, latitude: i64, longitude: i64, out: &mut [u8]) -> WrittenAnswer
+pub fn waypoint(
+    code: i64,
+    latitude: i64,
+    longitude: i64,
+    out: &mut [u8],
+) -> Result<usize, Refusal>
     ensures result_value { written result ≡ counted (waypoint_of code latitude longitude (length out.old)) }
     ensures out_after { out.new ≡ lent (waypoint_of code latitude longitude (length out.old)) out.old }
 {
-    match datum::wgs84(code, latitude, longitude) {
-        Wgs84PositionAnswer::Gives(position) => put_element(position, out),
-        Wgs84PositionAnswer::Refused(why) => WrittenAnswer::Refused(why),
-    }
+    let position = datum::wgs84(code, latitude, longitude)?;
+    put_element(position, out)
 }
 
-fn put_element(position: Wgs84Position, out: &mut [u8]) -> WrittenAnswer
+fn put_element(position: Wgs84Position, out: &mut [u8]) -> Result<usize, Refusal>
     requires { Printable position.latitude.0 position.longitude.0 }
     ensures result_value { written result ≡ counted (placed (element position.latitude.0 position.longitude.0) (length out.old)) }
     ensures out_after { out.new ≡ lent (placed (element position.latitude.0 position.longitude.0) (length out.old)) out.old }

@@ -2,6 +2,7 @@ use Rattle.std.proofs.Common.{sym, [], ◌∷◌, ◌++◌, ◌∙◌, rules}
 use mir.Syntax.{w64}
 use mir.Val.{SFits}
 use Rattle.whole.proofs.Words.{of, widened}
+use Rattle.kinds.proofs.Answers.{handed_on}
 use Rattle.waypoint.proofs.Positions.{printable, position_put, none_put}
 use Rattle.line.specs.Line.{line_feed}
 use Rattle.line.specs.Inside.{place_says, waypoint_put}
@@ -16,11 +17,11 @@ put_waypoint-requires c =
     (sym (position_is said (of code).reads
     ((widened (record { sfits = c.ms.type_inv })).reads ∙ c.ms.ensures)
     ((widened (record { sfits = c.ms-2.type_inv })).reads ∙ c.ms-2.ensures)
-    c.wgs84.ensures c.in-Gives.is))
+    c.in_ok-position.ensures))
 
-pub returns-in-Gives : goal.returns-in-Gives
+pub returns : goal.returns
 unfolding waypoint_put
-returns-in-Gives c =
+returns c =
     let said = place_says c.args.place in
     let code : SFits w64 c.args.place.code = search rules in
     let p = c.put_waypoint.ensures in
@@ -29,13 +30,13 @@ returns-in-Gives c =
     (position_is said (of code).reads
     ((widened (record { sfits = c.ms.type_inv })).reads ∙ c.ms.ensures)
     ((widened (record { sfits = c.ms-2.type_inv })).reads ∙ c.ms-2.ensures)
-    c.wgs84.ensures c.in-Gives.is)
+    c.in_ok-position.ensures)
     (p.result_value, p.out_after) in
     record { result_value = w.0; out_after = w.1 }
 
-pub returns-in-Refused : goal.returns-in-Refused
+pub returns-in_err-position : goal.returns-in_err-position
 unfolding waypoint_put
-returns-in-Refused c =
+returns-in_err-position c =
     let said = place_says c.args.place in
     let code : SFits w64 c.args.place.code = search rules in
     let w =
@@ -43,5 +44,5 @@ returns-in-Refused c =
     (position_is said (of code).reads
     ((widened (record { sfits = c.ms.type_inv })).reads ∙ c.ms.ensures)
     ((widened (record { sfits = c.ms-2.type_inv })).reads ∙ c.ms-2.ensures)
-    c.wgs84.ensures c.in-Refused.is) in
-    record { result_value = w.0; out_after = w.1 }
+    c.in_err-position.ensures) in
+    record { result_value = handed_on (λ n. n) c.from_residual.result _ c.from_residual.ensures.1 ∙ w.0; out_after = w.1 }

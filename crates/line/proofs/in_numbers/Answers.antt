@@ -1,8 +1,8 @@
-use Rattle.std.proofs.Common.{refl, ◌∙◌, rules}
+use Rattle.std.proofs.Common.{◌∙◌, rules}
 use mir.Syntax.{w64}
 use mir.Val.{SFits}
 use Rattle.whole.proofs.Words.{of, widened}
-use Rattle.datum.specs.Cases.{shift_says, geoid_says}
+use Rattle.kinds.proofs.Answers.{handed_on}
 use Rattle.line.specs.Inside.{place_says}
 use Rattle.line.proofs.Calls.{value_answered, point_refused}
 use Rattle.line.proofs.in_numbers.Goals as goal
@@ -14,7 +14,7 @@ returns-in-Shift c =
     value_answered (place_says c.args.place) (of code).reads
     ((widened (record { sfits = c.ms.type_inv })).reads ∙ c.ms.ensures)
     ((widened (record { sfits = c.ms-2.type_inv })).reads ∙ c.ms-2.ensures)
-    (shift_says c.in-Shift.shifts) c.args.out.now c.answer.ensures c.in-Shift.is refl
+    c.args.out.now (rw c.in-Shift.is at c.in_ok-given.ensures)
     (c.put_shift.ensures.result_value, c.put_shift.ensures.out_after) in
     record { result_value = w.0; out_after = w.1 }
 
@@ -25,16 +25,16 @@ returns-in-Geoid c =
     value_answered (place_says c.args.place) (of code).reads
     ((widened (record { sfits = c.ms.type_inv })).reads ∙ c.ms.ensures)
     ((widened (record { sfits = c.ms-2.type_inv })).reads ∙ c.ms-2.ensures)
-    (geoid_says c.in-Geoid.height) c.args.out.now c.answer.ensures c.in-Geoid.is refl
+    c.args.out.now (rw c.in-Geoid.is at c.in_ok-given.ensures)
     (c.put_geoid.ensures.result_value, c.put_geoid.ensures.out_after) in
     record { result_value = w.0; out_after = w.1 }
 
-pub returns-in-Refused : goal.returns-in-Refused
-returns-in-Refused c =
+pub returns-in_err-given : goal.returns-in_err-given
+returns-in_err-given c =
     let code : SFits w64 c.args.place.code = search rules in
     let w =
     point_refused (place_says c.args.place) (of code).reads
     ((widened (record { sfits = c.ms.type_inv })).reads ∙ c.ms.ensures)
     ((widened (record { sfits = c.ms-2.type_inv })).reads ∙ c.ms-2.ensures)
-    c.args.out.now c.answer.ensures c.in-Refused.is refl in
-    record { result_value = w.0; out_after = w.1 }
+    c.args.out.now c.in_err-given.ensures in
+    record { result_value = handed_on (λ n. n) c.from_residual.result _ c.from_residual.ensures.1 ∙ w.0; out_after = w.1 }
