@@ -17,7 +17,7 @@ use Rattle.kinds.proofs.Answers.{not_both, passed, same_value}
 use Rattle.line.specs.Line.{line_feed, text_to, line_in, unbroken}
 use Rattle.line.specs.declared.Form.{Form}
 use Rattle.line.specs.declared.Form.TheVariants.{Numbers, Waypoints}
-use Rattle.line.proofs.Printing.{text_short, text_ends, wrong_length, number_small}
+use Rattle.line.proofs.Printing.{text_short, text_ends, wrong_length}
 use Rattle.stream.specs.Stream.{refused_line, line_out, printed, ended, begun_after, held, kept, answers}
 use Rattle.stream.specs.declared.Begun.{Begun}
 use Rattle.stream.proofs.Keeping.{take_again, held_kept, kept_cut}
@@ -184,18 +184,18 @@ module _ (form : Form) (line out : List ℕ) (room : length (printed form line) 
   answer_put count new h is-new = let g = gives_said form (text_to form line) out count room h in (g.0, is-new ∙ g.1)
 
   -- the line of a refusal, which is then put at the start of same
-  module _ (number n : ℕ) (h : refused n ≡ counted (line_in form line (length out))) (is_number : number ≡ n) (same : List ℕ) (is_same : same ≡ lent (line_in form line (length out)) out) where
+  module _ (n : ℕ) (h : refused n ≡ counted (line_in form line (length out))) (same : List ℕ) (is_same : same ≡ lent (line_in form line (length out)) out) where
     said : (text_to form line ≡ refused n) × (lent (line_in form line (length out)) out ≡ out)
     unfolding printed
     said = refused_said form (text_to form line) out n room h
 
-    text_is : refused_line form number ≡ printed form line
+    text_is : refused_line form n ≡ printed form line
     unfolding printed
-    text_is = ap (refused_line form) is_number ∙ ap (line_out form) (sym said.0)
+    text_is = ap (line_out form) (sym said.0)
 
-    pub refusal_fits : (number < 10) × (length (refused_line form number) ≤ length same)
-    refusal_fits = (omega (arith, number_small form line n said.0), rw (text_is, is_same ∙ said.1) room)
+    pub refusal_fits : length (refused_line form n) ≤ length same
+    refusal_fits = rw (text_is, is_same ∙ said.1) room
 
-    pub refusal_put : (r : ℕ) (new : List ℕ) → (r ≡ length (refused_line form number)) × (new ≡ refused_line form number ++ drop r same)
+    pub refusal_put : (r : ℕ) (new : List ℕ) → (r ≡ length (refused_line form n)) × (new ≡ refused_line form n ++ drop r same)
         → (r ≡ length (printed form line)) × (new ≡ printed form line ++ drop r out)
     refusal_put r new put = (put.0 ∙ ap length text_is, put.1 ∙ (λ i. text_is i ++ drop r ((is_same ∙ said.1) i)))

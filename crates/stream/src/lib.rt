@@ -3,12 +3,13 @@
 #![tactic(auto)]
 
 ghost use Rattle.std.specs.Prelude.{◌≡◌, true, [], ◌++◌, ◌+◌, ◌<◌, ◌≤◌, length, take, drop};
+ghost use Rattle.kinds.specs.Answer.{number_of};
 ghost use Rattle.kinds.specs.Bytes.{part};
 ghost use Rattle.line.specs.declared.Form.TheVariants.{Numbers, Waypoints};
 ghost use Rattle.stream.specs.Stream.{refused_line, printed, held, kept, started, after, at_end, taken_of, answers, closing};
 ghost use Rattle.stream.specs.Inside.{Clear, First, FirstFeed, end_for, low_first};
 
-use kinds::WrittenAnswer;
+use kinds::Refusal;
 use line::{Form, LINE, WAYPOINT};
 use numbers::one;
 use whole::least;
@@ -312,38 +313,36 @@ fn printed(form: Form, line: &[u8], out: &mut [u8]) -> usize
     ensures out_after { out.new ≡ printed form line.now ++ drop result out.old }
 {
     match line::line_in(form, line, out) {
-        WrittenAnswer::Gives(count) => count,
-        WrittenAnswer::Refused(why) => refused(form, why.number(), out),
+        Ok(count) => count,
+        Err(why) => refused(form, why, out),
     }
 }
 
-fn refused(form: Form, number: u8, out: &mut [u8]) -> usize
-    requires { (number < 10) × (length (refused_line form number) ≤ length out.old) }
-    ensures value { result ≡ length (refused_line form number) }
-    ensures out_after { out.new ≡ refused_line form number ++ drop result out.old }
+fn refused(form: Form, why: Refusal, out: &mut [u8]) -> usize
+    requires { length (refused_line form (number_of why)) ≤ length out.old }
+    ensures value { result ≡ length (refused_line form (number_of why)) }
+    ensures out_after { out.new ≡ refused_line form (number_of why) ++ drop result out.old }
 {
     match form {
-        Form::Numbers => kinds::copy(&refused_line(number), out),
-        Form::Waypoints => kinds::copy(&comment(number), out),
+        Form::Numbers => kinds::copy(&refused_line(why), out),
+        Form::Waypoints => kinds::copy(&comment(why), out),
     }
 }
 
-#[tactic(auto, unfolding(crate::specs::Stream::refused_line))]
-fn refused_line(number: u8) -> [u8; 10]
-    requires { number < 10 }
-    ensures { result ≡ refused_line Numbers number }
+#[tactic(auto, using(kinds::proofs::Demands::numbers_tabled), unfolding(crate::specs::Stream::refused_line))]
+fn refused_line(why: Refusal) -> [u8; 10]
+    ensures { result ≡ refused_line Numbers (number_of why) }
 {
     let mut line = *b"refused 0\n";
-    line[8] = b'0' + number;
+    line[8] = b'0' + why.number();
     line
 }
 
-#[tactic(auto, unfolding(crate::specs::Stream::refused_line))]
-fn comment(number: u8) -> [u8; REFUSED]
-    requires { number < 10 }
-    ensures { result ≡ refused_line Waypoints number }
+#[tactic(auto, using(kinds::proofs::Demands::numbers_tabled), unfolding(crate::specs::Stream::refused_line))]
+fn comment(why: Refusal) -> [u8; REFUSED]
+    ensures { result ≡ refused_line Waypoints (number_of why) }
 {
     let mut line = *b"<!-- refused 0 -->\n";
-    line[13] = b'0' + number;
+    line[13] = b'0' + why.number();
     line
 }
