@@ -13,8 +13,7 @@ ghost use Rattle.line.specs.Line.{line_of};
 ghost use Rattle.waypoint.specs.Waypoint.{waypoint_of};
 ghost use Rattle.buckettin.specs.Fields.{value_or, shift_fields, geoid_fields, read_fields, written_fields};
 
-use datum::ShiftAnswer;
-use kinds::{HeightAnswer, LocalLatitudeAnswer, LocalLongitudeAnswer, Refusal, WrittenAnswer};
+use kinds::Refusal;
 
 #[repr(C)]
 #[derive(Clone, Copy)]
@@ -87,13 +86,13 @@ pub fn buckettin_shift(code: i64, latitude_ms: i64, longitude_ms: i64) -> Shift
     ensures { result ≡ shift_fields (shift_of code latitude_ms longitude_ms) }
 {
     match datum::shift(code, latitude_ms, longitude_ms) {
-        ShiftAnswer::Gives(shifts) => Shift::of(
+        Ok(shifts) => Shift::of(
             0,
             shifts.latitude.units(),
             shifts.longitude.units(),
             shifts.height.mm(),
         ),
-        ShiftAnswer::Refused(why) => Shift::of(refusal_number(why), 0, 0, 0),
+        Err(why) => Shift::of(refusal_number(why), 0, 0, 0),
     }
 }
 
@@ -101,8 +100,8 @@ pub fn buckettin_geoid(code: i64, latitude_ms: i64, longitude_ms: i64) -> Geoid
     ensures { result ≡ geoid_fields (geoid_of code latitude_ms longitude_ms) }
 {
     match datum::geoid(code, latitude_ms, longitude_ms) {
-        HeightAnswer::Gives(height) => Geoid::of(0, height.mm()),
-        HeightAnswer::Refused(why) => Geoid::of(refusal_number(why), 0),
+        Ok(height) => Geoid::of(0, height.mm()),
+        Err(why) => Geoid::of(refusal_number(why), 0),
     }
 }
 
@@ -134,8 +133,8 @@ pub fn buckettin_read_latitude(text: &[u8]) -> Read
     ensures { result ≡ read_fields (read latitude text.now) }
 {
     match position::read_latitude(text) {
-        LocalLatitudeAnswer::Gives(latitude) => Read::of(0, latitude.ms()),
-        LocalLatitudeAnswer::Refused(why) => Read::of(refusal_number(why), 0),
+        Ok(latitude) => Read::of(0, latitude.ms()),
+        Err(why) => Read::of(refusal_number(why), 0),
     }
 }
 
@@ -143,8 +142,8 @@ pub fn buckettin_read_longitude(text: &[u8]) -> Read
     ensures { result ≡ read_fields (read longitude text.now) }
 {
     match position::read_longitude(text) {
-        LocalLongitudeAnswer::Gives(longitude) => Read::of(0, longitude.ms()),
-        LocalLongitudeAnswer::Refused(why) => Read::of(refusal_number(why), 0),
+        Ok(longitude) => Read::of(0, longitude.ms()),
+        Err(why) => Read::of(refusal_number(why), 0),
     }
 }
 
@@ -184,13 +183,13 @@ pub fn buckettin_waypoint(code: i64, latitude_ms: i64, longitude_ms: i64, out: &
 }
 
 // How many bytes were written, or why none.
-fn in_numbers(answer: WrittenAnswer) -> Written
+fn in_numbers(answer: Result<usize, Refusal>) -> Written
     requires { value_or 0 (written answer) < 4294967296 }
     ensures { result ≡ written_fields (written answer) }
 {
     match answer {
-        WrittenAnswer::Gives(count) => Written::of(0, count as u32),
-        WrittenAnswer::Refused(why) => Written::of(refusal_number(why), 0),
+        Ok(count) => Written::of(0, count as u32),
+        Err(why) => Written::of(refusal_number(why), 0),
     }
 }
 

@@ -8,9 +8,3 @@ use Rattle.whole.proofs.Words.{of}
 module _ {code latitude longitude : ℤ} (c : SFits w64 code) (b : SFits w64 latitude) (l : SFits w64 longitude) where
   pub came : {A : Type 0} (call : ℤ → ℤ → ℤ → A) → call (to_z w64 (of_z w64 code)) (to_z w64 (of_z w64 latitude)) (to_z w64 (of_z w64 longitude)) ≡ call code latitude longitude
   came call = λ i. call ((of c).reads i) ((of b).reads i) ((of l).reads i)
-
-  -- what is made of the case that was found
-  pub found : {E A B : Type 0} (Says : E → A) (made : A → B) (call : ℤ → ℤ → ℤ → A) {given case : E}
-      → Says given ≡ call (to_z w64 (of_z w64 code)) (to_z w64 (of_z w64 latitude)) (to_z w64 (of_z w64 longitude))
-      → given ≡ case → made (Says case) ≡ made (call code latitude longitude)
-  found Says made call e same = ap made (ap Says (sym same) ∙ e ∙ came call)

@@ -94,17 +94,3 @@ text_ends Waypoints line =
 pub wrong_length : (form : Form) (line : List ℕ) → (length line ≡ 26 → ⊥) → text_to form line ≡ refused 1
 wrong_length Numbers line h = simp (ne_eqb (length line) 26 h)
 wrong_length Waypoints line h = simp (ne_eqb (length line) 26 h)
-
--- no number of a refusal has two digits
-pub number_small : (form : Form) (line : List ℕ) (n : ℕ) → text_to form line ≡ refused n → n < 10
-number_small Numbers line n h =
-    ltb-true n 10 (first_number (λ m. ltb m 10) (tests line) n refl (first_failed (tests line) _ n (refused_as answer_line (λ _. Unit {0}) (answer_to line) h)))
-number_small Waypoints line n h =
-    let place = point.tests is_shift (code line) (latitude_of line) (longitude_of line) in
-    ⊎_elim
-    (λ f. ltb-true n 10 (first_number (λ m. ltb m 10) (text_tests line) n refl f))
-    (λ p.
-    ltb-true n 10
-    (first_number (λ m. ltb m 10) place n refl
-    (first_failed place _ n ((as_refused (code line) (latitude_of line) (longitude_of line) n).0 p.1))))
-    (first_or_behind (text_tests line) (element_of (code line) (latitude_of line) (longitude_of line)) n (refused_as (λ element. element ++ line_feed ∷ []) (λ _. Unit {0}) (element_to line) h))
