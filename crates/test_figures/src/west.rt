@@ -1,5 +1,5 @@
 // An area through Greenwich, which none of the six datums has: its west end is negative.
-use kinds::{LocalLatitude, LocalPosition, LocalPositionAnswer};
+use kinds::{LocalLatitude, LocalPosition};
 use std::io;
 use std::io::Write;
 use tables::{Axis, Frame};
@@ -23,7 +23,7 @@ const FRAME: Frame = Frame {
 
 // 1 where it holds a position and 0 where not; nothing of numbers that are no position.
 pub(crate) fn held<W: Write>(answers: &mut W, latitude: i64, longitude: i64) -> io::Result<()> {
-    let LocalPositionAnswer::Gives(position) = LocalPosition::new(latitude, longitude) else {
+    let Ok(position) = LocalPosition::new(latitude, longitude) else {
         return Ok(());
     };
     let frame = FRAME;

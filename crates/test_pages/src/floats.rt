@@ -1,7 +1,7 @@
 // The answers as floats, by their bits in hexadecimal.
 use datum::Shifts;
-use floating::{Answer, ShiftFloats};
-use kinds::{AngleShift, AngleShiftAnswer, Height};
+use floating::{GivenFloats, ShiftFloats};
+use kinds::{AngleShift, Height};
 use std::io;
 use std::io::Write;
 
@@ -16,9 +16,9 @@ pub(crate) fn either<W: Write>(
     longitude: i64,
 ) -> io::Result<()> {
     match floating::floating(code, latitude, longitude) {
-        Answer::Shift(shift) => shifted(answers, shift),
-        Answer::Geoid(height) => test_show::float(answers, height),
-        Answer::Refused(number) => test_show::refusal(answers, number),
+        Ok(GivenFloats::Shift(shift)) => shifted(answers, shift),
+        Ok(GivenFloats::Geoid(height)) => test_show::float(answers, height),
+        Err(why) => test_show::refused(answers, why),
     }
 }
 
@@ -40,11 +40,11 @@ pub(crate) fn each<W: Write>(
 
 // The floats of one whole number of 4 bytes as each of the three shifts.
 pub(crate) fn made<W: Write>(answers: &mut W, n: i64) -> io::Result<()> {
-    let AngleShiftAnswer::Gives(shift) = AngleShift::new(n) else {
+    let Ok(shift) = AngleShift::new(n) else {
         return Ok(());
     };
-    let angle = AngleShift::of(shift.units());
-    let height = Height::of(shift.units());
+    let angle = AngleShift::from(shift.units());
+    let height = Height::from(shift.units());
     let shifts = Shifts {
         latitude: angle,
         longitude: angle,

@@ -4,8 +4,7 @@
 
 mod floats;
 
-use datum::{PointAnswer, ShiftAnswer, Shifts};
-use kinds::HeightAnswer;
+use datum::{Given, Shifts};
 use std::io;
 use std::io::{Read, Write};
 
@@ -20,23 +19,23 @@ fn shifted<W: Write>(answers: &mut W, shifts: Shifts) -> io::Result<()> {
 
 fn either<W: Write>(answers: &mut W, code: i64, latitude: i64, longitude: i64) -> io::Result<()> {
     match datum::answer(code, latitude, longitude) {
-        PointAnswer::Shift(shifts) => shifted(answers, shifts),
-        PointAnswer::Geoid(height) => test_show::four_bytes(answers, height.mm()),
-        PointAnswer::Refused(why) => test_show::refused(answers, why),
+        Ok(Given::Shift(shifts)) => shifted(answers, shifts),
+        Ok(Given::Geoid(height)) => test_show::four_bytes(answers, height.mm()),
+        Err(why) => test_show::refused(answers, why),
     }
 }
 
 fn shift<W: Write>(answers: &mut W, code: i64, latitude: i64, longitude: i64) -> io::Result<()> {
     match datum::shift(code, latitude, longitude) {
-        ShiftAnswer::Gives(shifts) => shifted(answers, shifts),
-        ShiftAnswer::Refused(why) => test_show::refused(answers, why),
+        Ok(shifts) => shifted(answers, shifts),
+        Err(why) => test_show::refused(answers, why),
     }
 }
 
 fn geoid<W: Write>(answers: &mut W, code: i64, latitude: i64, longitude: i64) -> io::Result<()> {
     match datum::geoid(code, latitude, longitude) {
-        HeightAnswer::Gives(height) => test_show::four_bytes(answers, height.mm()),
-        HeightAnswer::Refused(why) => test_show::refused(answers, why),
+        Ok(height) => test_show::four_bytes(answers, height.mm()),
+        Err(why) => test_show::refused(answers, why),
     }
 }
 

@@ -2,7 +2,6 @@
 // must print from the papers.
 #![tactic(auto)]
 
-use kinds::WrittenAnswer;
 use std::io;
 use std::io::{Read, Write};
 
@@ -42,8 +41,8 @@ fn tried<R: Read, W: Write>(
     let mut sheet = [0; 38];
     let n = test_ask::text(questions, &mut sheet)?;
     match sheet::work(7, &sheet[..n], out) {
-        WrittenAnswer::Gives(_) => first(answers, out)?,
-        WrittenAnswer::Refused(why) => test_show::digit(answers, why.number())?,
+        Ok(_) => first(answers, out)?,
+        Err(why) => test_show::digit(answers, why.number())?,
     }
     Ok(true)
 }

@@ -1,7 +1,7 @@
 // How the test programs print answers, each with a space before it: numbers, floats by their bits, bytes, refusals and counts.
 #![tactic(auto)]
 
-use kinds::{Refusal, WrittenAnswer};
+use kinds::Refusal;
 use std::io;
 use std::io::Write;
 
@@ -82,9 +82,9 @@ pub fn refusal<W: Write>(answers: &mut W, n: u8) -> io::Result<()> {
     number(answers, i64::from(n))
 }
 
-pub fn written<W: Write>(answers: &mut W, answer: WrittenAnswer) -> io::Result<()> {
+pub fn written<W: Write>(answers: &mut W, answer: Result<usize, Refusal>) -> io::Result<()> {
     match answer {
-        WrittenAnswer::Gives(n) => write!(answers, " wrote {n}"),
-        WrittenAnswer::Refused(why) => refused(answers, why),
+        Ok(n) => write!(answers, " wrote {n}"),
+        Err(why) => refused(answers, why),
     }
 }

@@ -2,22 +2,21 @@
 // works out what it must print from the papers.
 #![tactic(auto)]
 
-use kinds::{LocalLatitudeAnswer, LocalLongitudeAnswer};
 use std::io;
 use std::io::{Read, Write};
 
 // A number is printed in brackets, a refusal as its digit alone.
 fn latitude<W: Write>(answers: &mut W, text: &[u8]) -> io::Result<()> {
     match position::read_latitude(text) {
-        LocalLatitudeAnswer::Gives(x) => test_show::bracketed(answers, x.ms()),
-        LocalLatitudeAnswer::Refused(why) => test_show::digit(answers, why.number()),
+        Ok(x) => test_show::bracketed(answers, x.ms()),
+        Err(why) => test_show::digit(answers, why.number()),
     }
 }
 
 fn longitude<W: Write>(answers: &mut W, text: &[u8]) -> io::Result<()> {
     match position::read_longitude(text) {
-        LocalLongitudeAnswer::Gives(x) => test_show::bracketed(answers, x.ms()),
-        LocalLongitudeAnswer::Refused(why) => test_show::digit(answers, why.number()),
+        Ok(x) => test_show::bracketed(answers, x.ms()),
+        Err(why) => test_show::digit(answers, why.number()),
     }
 }
 

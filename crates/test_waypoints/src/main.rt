@@ -2,10 +2,7 @@
 // tests/waypoints.py asks, and works out what it must print from the papers.
 #![tactic(auto)]
 
-use kinds::{
-    Wgs84Latitude, Wgs84LatitudeAnswer, Wgs84Longitude, Wgs84LongitudeAnswer, Wgs84Position,
-    WrittenAnswer,
-};
+use kinds::{Wgs84Latitude, Wgs84Longitude, Wgs84Position};
 use line::Form;
 use std::io;
 use std::io::{Read, Write};
@@ -26,19 +23,19 @@ fn into<R: Read, W: Write>(questions: &mut R, answers: &mut W, out: &mut [u8]) -
 fn element<W: Write>(answers: &mut W, latitude: i64, longitude: i64) -> io::Result<()> {
     let mut out = [b'#'; 50];
     match Wgs84Latitude::new(latitude) {
-        Wgs84LatitudeAnswer::Gives(north) => match Wgs84Longitude::new(longitude) {
-            Wgs84LongitudeAnswer::Gives(east) => {
+        Ok(north) => match Wgs84Longitude::new(longitude) {
+            Ok(east) => {
                 let position = Wgs84Position {
                     latitude: north,
                     longitude: east,
                 };
                 let count = waypoint::element(position, &mut out);
-                test_show::written(answers, WrittenAnswer::Gives(count))?;
+                test_show::written(answers, Ok(count))?;
                 test_show::text(answers, &out)
             }
-            Wgs84LongitudeAnswer::Refused(why) => test_show::refused(answers, why),
+            Err(why) => test_show::refused(answers, why),
         },
-        Wgs84LatitudeAnswer::Refused(why) => test_show::refused(answers, why),
+        Err(why) => test_show::refused(answers, why),
     }
 }
 
