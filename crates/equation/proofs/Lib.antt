@@ -1,7 +1,7 @@
 -- The laws, by what they are about. Another crate cites them as `Rattle.equation.proofs.NAME`.
 -- the powers: which stands where, how large it can be, and its sign
 pub mod Steps
--- a sum: one term more, a term of three columns, how large it is
+-- a sum, how large it is, and a term of a table
 pub mod Sums
 -- the classes of terms, and the sum by theirs
 pub mod Classes

@@ -1,15 +1,16 @@
--- The sum of a table's terms: one term more, a term of three columns, and how large it is. Assumes nothing.
+-- The sum of a table's terms, how large it is, and a term of the table. Assumes nothing.
 use mathlib.Core.Path.{◌≡◌, refl, sym, ap, ◌∙◌}
-use mathlib.Core.List.{List, [], ◌∷◌, ◌++◌, Permᴰ}
+use mathlib.Core.List.{List, [], ◌∷◌, Permᴰ}
 use Prim.Native.Nat.{ℕ, zero, suc, ◌+◌, ◌*◌, ◌<◌, ◌≤◌, zero-le}
-use native.Mathlib.Nat.{le_refl, le_trans, le_of_eq, add-le-add, not-suc-le-zero, le_of_suc-le-suc, suc_inj}
+use native.Mathlib.Nat.{le_refl, le_trans, le_of_eq, add-le-add, not-suc-le-zero, le_of_suc-le-suc}
 use native.Mathlib.Omega.{arith}
 use lib.ListN.{length, get_or, take}
-use lib.Seq.{take-suc}
-use lib.IntN.{ℤ, pos, nat_abs, ◌+ℤ◌, ◌*ℤ◌, +ℤ_assoc, +ℤ_comm, +ℤ_idl, +ℤ_idr}
+use lib.IntN.{ℤ, pos, nat_abs, ◌+ℤ◌, ◌*ℤ◌, +ℤ_assoc, +ℤ_comm}
 use Rattle.whole.proofs.Sizes.{abs-+, abs-*}
 use Rattle.whole.specs.Round.{scale}
-use Rattle.equation.specs.Equation.{Term, term, product, sum, terms}
+use Rattle.equation.specs.Equation.{Term, term, product, sum}
+use Rattle.equation.specs.Inside.{coded, terms}
+use Rattle.equation.specs.declared.Term as code
 use Rattle.equation.specs.Room.{Fitting, EachFits, sizes}
 
 -- what a term adds to the sum
@@ -23,45 +24,23 @@ size (term c i j) pu pv = nat_abs c * nat_abs (product scale i j pu pv)
 pub size_is : (t : Term) (pu pv : List ℤ) → nat_abs (value t pu pv) ≡ size t pu pv
 size_is (term c i j) pu pv = abs-* c (product scale i j pu pv)
 
--- ---- a term of three columns
+-- ---- a term of a table
+pub length_terms : (table : List code.Term) → length (terms table) ≡ length table
+length_terms [] = refl
+length_terms (t ∷ ts) = ap suc (length_terms ts)
+
 abbrev pub none : Term
 none = term (pos 0) 0 0
 
-module _ (d : Term) where
-  no_more : {n : ℕ} → 0 ≡ suc n → ⊥
-  no_more e = omega arith
-
-  pub terms_at : (cs : List ℤ) (us vs : List ℕ) → length us ≡ length cs → length vs ≡ length cs → (k : ℕ) → k < length cs
-      → get_or (terms cs us vs) k d ≡ term (get_or cs k (pos 0)) (get_or us k 0) (get_or vs k 0)
-  terms_at [] us vs p q k h = absurd (not-suc-le-zero h)
-  terms_at (c ∷ cs) [] vs p q k h = absurd (no_more p)
-  terms_at (c ∷ cs) (i ∷ us) [] p q k h = absurd (no_more q)
-  terms_at (c ∷ cs) (i ∷ us) (j ∷ vs) p q zero h = refl
-  terms_at (c ∷ cs) (i ∷ us) (j ∷ vs) p q (suc k) h = terms_at cs us vs (suc_inj p) (suc_inj q) k (le_of_suc-le-suc h)
-
-pub length_terms : (cs : List ℤ) (us vs : List ℕ) → length us ≡ length cs → length vs ≡ length cs → length (terms cs us vs) ≡ length cs
-length_terms [] us vs p q = refl
-length_terms (c ∷ cs) [] vs p q = p
-length_terms (c ∷ cs) (i ∷ us) [] p q = q
-length_terms (c ∷ cs) (i ∷ us) (j ∷ vs) p q = ap suc (length_terms cs us vs (suc_inj p) (suc_inj q))
+pub terms_at : (table : List code.Term) (d : code.Term) (k : ℕ) → k < length table → get_or (terms table) k none ≡ coded (get_or table k d)
+terms_at [] d k h = absurd (not-suc-le-zero h)
+terms_at (t ∷ ts) d zero h = refl
+terms_at (t ∷ ts) d (suc k) h = terms_at ts d k (le_of_suc-le-suc h)
 
 module _ (pu pv : List ℤ) where
-  -- ---- one term more
   sum_first : (t : Term) (ts : List Term) → sum scale (t ∷ ts) pu pv ≡ value t pu pv +ℤ sum scale ts pu pv
   unfolding sum
   sum_first (term c i j) ts = refl
-
-  sum_last : (ts : List Term) (t : Term) → sum scale (ts ++ (t ∷ [])) pu pv ≡ sum scale ts pu pv +ℤ value t pu pv
-  unfolding sum
-  sum_last [] t = sum_first t [] ∙ +ℤ_idr (value t pu pv) ∙ sym (+ℤ_idl (value t pu pv))
-  sum_last (s ∷ ts) t =
-      sum_first s (ts ++ (t ∷ []))
-      ∙ ap (λ (z : ℤ). value s pu pv +ℤ z) (sum_last ts t)
-      ∙ sym (+ℤ_assoc (value s pu pv) (sum scale ts pu pv) (value t pu pv))
-      ∙ ap (λ (z : ℤ). z +ℤ value t pu pv) (sym (sum_first s ts))
-
-  pub sum_next : (ts : List Term) (k : ℕ) → k < length ts → sum scale (take (suc k) ts) pu pv ≡ sum scale (take k ts) pu pv +ℤ value (get_or ts k none) pu pv
-  sum_next ts k h = ap (λ (l : List Term). sum scale l pu pv) (take-suc ts k none h) ∙ sum_last (take k ts) (get_or ts k none)
 
   -- ---- how large
   pub sizes_first : (t : Term) (ts : List Term) → sizes (t ∷ ts) pu pv ≡ size t pu pv + sizes ts pu pv

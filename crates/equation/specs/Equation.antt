@@ -30,10 +30,3 @@ sum s (term c i j ∷ ts) pu pv = c *ℤ product s i j pu pv +ℤ sum s ts pu pv
 -- it is divided and rounded once; s is 100,000,000
 abbrev pub equation_of : ℕ → List Term → List ℤ → List ℤ → ℤ
 equation_of divisor ts pu pv = round_div (sum scale ts pu pv) divisor
-
--- a table that stands as three columns
-abbrev pub terms : List ℤ → List ℕ → List ℕ → List Term
-terms [] us vs = []
-terms (c ∷ cs) [] vs = []
-terms (c ∷ cs) (i ∷ us) [] = []
-terms (c ∷ cs) (i ∷ us) (j ∷ vs) = term c i j ∷ terms cs us vs

@@ -5,15 +5,19 @@ use Rattle.whole.specs.Round.{scale}
 use Rattle.whole.specs.Sign.{with_sign}
 use Rattle.equation.specs.Powers.{powers_of}
 use Rattle.equation.specs.Equation.{Term, term, product}
-use Rattle.equation.specs.declared.Powers.{Powers}
+use Rattle.equation.specs.declared.Term as code
+
+-- a table of the code, as terms
+abbrev pub coded : code.Term → Term
+coded t = term t.0 t.1 t.2
+
+abbrev pub terms : List code.Term → List Term
+terms [] = []
+terms (t ∷ ts) = coded t ∷ terms ts
 
 -- the ten powers of the size of u
 abbrev pub size_powers : ℤ → List ℤ
 size_powers u = powers_of scale (pos (nat_abs u)) 10
-
--- and of that of v
-abbrev pub both_powers : ℤ → ℤ → Powers
-both_powers u v = record { u = size_powers u; v = size_powers v }
 
 -- the class of a term, by its powers of U and V: 0 both are even, 1 V's alone is odd, 2 U's alone, 3 both
 abbrev pub class_of : Term → ℕ

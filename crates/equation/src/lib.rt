@@ -4,27 +4,34 @@
 ghost use Rattle.std.specs.Prelude.{◌≡◌, ◌+◌, ◌<◌, ◌≤◌, pos, nat_abs, length, get_or, take};
 ghost use Rattle.whole.specs.Round.{scale};
 ghost use Rattle.equation.specs.Powers.{powers_of};
-ghost use Rattle.equation.specs.Equation.{terms, sum};
+ghost use Rattle.equation.specs.Equation.{sum};
 ghost use Rattle.equation.specs.Room.{Room};
-ghost use Rattle.equation.specs.Inside.{size_powers, both_powers, class_sums, joined};
+ghost use Rattle.equation.specs.Inside.{terms, size_powers, class_sums, joined};
 
 use whole::Parts;
 
-// The ten powers of the sizes of u and of v, which are worked once for a point and passed together to each of its equations.
+// A term of an equation: its whole coefficient, its power of U and its power of V.
+#[derive(Clone, Copy)]
+pub struct Term(pub i64, pub u8, pub u8);
+
+// u and v of a point, and the ten powers of their sizes, which are worked once and passed together to each of its equations.
 #[derive(Clone, Copy)]
 pub struct Powers {
-    pub u: [i64; 10],
-    pub v: [i64; 10],
+    pub u: Parts,
+    pub v: Parts,
+    pub of_u: [i64; 10],
+    pub of_v: [i64; 10],
+    pub ghost are: { (of_u ≡ size_powers u.0) × (of_v ≡ size_powers v.0) },
 }
 
 impl Powers {
     pub fn of(u: Parts, v: Parts) -> Powers
         requires { (nat_abs u.0 ≤ 255000000) × (nat_abs v.0 ≤ 255000000) }
-        ensures { result ≡ both_powers u.0 v.0 }
+        ensures { (result.u ≡ u) × (result.v ≡ v) }
     {
-        let pu = size_powers(u);
-        let pv = size_powers(v);
-        Powers { u: pu, v: pv }
+        let of_u = size_powers(u);
+        let of_v = size_powers(v);
+        Powers { u, v, of_u, of_v }
     }
 }
 
@@ -38,11 +45,9 @@ pub fn size_powers(u: Parts) -> [i64; 10]
     let mut out = [Parts::SCALE; 10];
     out[1] = size as i64;
     let mut power = size;
-    let mut k: usize = 2;
-    while k < 9 {
+    for k in 2..9 {
         power = whole::nearest(power * size, Parts::DIVISOR);
         out[k] = power as i64;
-        k += 1;
     }
     // of the largest v of code 6 what is divided here would pass 64 bits
     out[9] = whole::scaled(power, size) as i64;
@@ -50,17 +55,13 @@ pub fn size_powers(u: Parts) -> [i64; 10]
 }
 
 // The sum of each coefficient times its product of powers, which is exact. Who calls divides it, by a literal, and rounds once.
-// The table is three columns of one length: coefficients, powers of u, powers of v. It is worked by sizes, since a rounding of a
-// number that is not negative is the shorter one; and a term's sign is that of its class.
-pub fn sum(coefficients: &[i64], us: &[u8], vs: &[u8], powers: Powers, u: Parts, v: Parts) -> i64
-    requires us_len { (length us.now ≡ length coefficients.now) × (length vs.now ≡ length coefficients.now) }
-    requires powers_value { powers ≡ both_powers u.0 v.0 }
-    requires room { Room (terms coefficients.now us.now vs.now) (size_powers u.0) (size_powers v.0) }
-    ensures { result ≡ sum scale (terms coefficients.now us.now vs.now) (powers_of scale u.0 10) (powers_of scale v.0 10) }
+// It is worked by sizes, since a rounding of a number that is not negative is the shorter one; and a term's sign is that of its
+// class.
+pub fn sum(table: &[Term], powers: Powers) -> i64
+    requires { Room (terms table.now) (size_powers powers.u.0) (size_powers powers.v.0) }
+    ensures { result ≡ sum scale (terms table.now) (powers_of scale powers.u.0 10) (powers_of scale powers.v.0 10) }
 {
-    let pu = powers.u;
-    let pv = powers.v;
-    joined(class_sums(coefficients, us, vs, pu, pv), u.0 < 0, v.0 < 0)
+    joined(class_sums(table, powers), powers.u.0 < 0, powers.v.0 < 0)
 }
 
 // The sum of all classes, each with its sign, by whether u and v are below zero: a class with an odd power of one that is has the
@@ -77,16 +78,15 @@ fn joined(sums: [i64; 4], u: bool, v: bool) -> i64
 
 // The sum of each class of terms: those whose powers are both even, V's alone is odd, U's alone, both. They are walked eight at a
 // time: the compiler makes straight code of a loop that short, in which all that a table says is known.
-fn class_sums(coefficients: &[i64], us: &[u8], vs: &[u8], pu: [i64; 10], pv: [i64; 10]) -> [i64; 4]
-    requires us_len { (length us.now ≡ length coefficients.now) × (length vs.now ≡ length coefficients.now) }
-    requires room { Room (terms coefficients.now us.now vs.now) pu pv }
-    ensures { result ≡ class_sums (terms coefficients.now us.now vs.now) pu pv }
+fn class_sums(table: &[Term], powers: Powers) -> [i64; 4]
+    requires { Room (terms table.now) powers.of_u powers.of_v }
+    ensures { result ≡ class_sums (terms table.now) powers.of_u powers.of_v }
 {
     let mut sums = [0; 4];
     let mut from = 0;
-    while from < coefficients.len() {
-        let to = whole::least(coefficients.len(), from + 8);
-        let more = added(sums, coefficients, us, vs, pu, pv, from, to);
+    while from < table.len() {
+        let to = table.len().min(from + 8);
+        let more = added(sums, table, powers, from, to);
         sums = more;
         from = to;
     }
@@ -94,31 +94,22 @@ fn class_sums(coefficients: &[i64], us: &[u8], vs: &[u8], pu: [i64; 10], pv: [i6
 }
 
 // The sums with the terms up to one place, by those up to another.
-fn added(
-    before: [i64; 4],
-    coefficients: &[i64],
-    us: &[u8],
-    vs: &[u8],
-    pu: [i64; 10],
-    pv: [i64; 10],
-    from: usize,
-    to: usize,
-) -> [i64; 4]
-    requires us_len { (length us.now ≡ length coefficients.now) × (length vs.now ≡ length coefficients.now) }
-    requires room { Room (terms coefficients.now us.now vs.now) pu pv }
-    requires from_le_to { (from ≤ to) × (to ≤ length coefficients.now) }
-    requires before_value { before ≡ class_sums (take from (terms coefficients.now us.now vs.now)) pu pv }
-    ensures { result ≡ class_sums (take to (terms coefficients.now us.now vs.now)) pu pv }
+fn added(before: [i64; 4], table: &[Term], powers: Powers, from: usize, to: usize) -> [i64; 4]
+    requires room { Room (terms table.now) powers.of_u powers.of_v }
+    requires from_le_to { (from ≤ to) × (to ≤ length table.now) }
+    requires before_value { before ≡ class_sums (take from (terms table.now)) powers.of_u powers.of_v }
+    ensures { result ≡ class_sums (take to (terms table.now)) powers.of_u powers.of_v }
 {
     let mut sums = before;
-    let mut k = from;
-    while k < to {
-        let i = us[k] as usize;
-        let j = vs[k] as usize;
+    for term in &table[from..to] {
+        let i = term.1 as usize;
+        let j = term.2 as usize;
         let class = i % 2 * 2 + j % 2;
-        let product = whole::nearest(pu[i] as u64 * pv[j] as u64, Parts::DIVISOR);
-        sums[class] = sums[class] + coefficients[k] * product as i64;
-        k += 1;
+        let product = whole::nearest(
+            powers.of_u[i] as u64 * powers.of_v[j] as u64,
+            Parts::DIVISOR,
+        );
+        sums[class] += term.0 * product as i64;
     }
     sums
 }

@@ -1,7 +1,7 @@
 use Rattle.std.proofs.Common.{refl, ap, ◌∙◌, arith, List}
 use lib.Seq.{take_all}
-use Rattle.equation.specs.Equation.{Term, terms}
-use Rattle.equation.specs.Inside.{class_sum, class_sums}
+use Rattle.equation.specs.Equation.{Term}
+use Rattle.equation.specs.Inside.{terms, class_sum, class_sums}
 use Rattle.equation.proofs.Sums.{length_terms}
 use Rattle.equation.proofs.class_sums.Goals as goal
 
@@ -11,8 +11,7 @@ loop-from-init c = record { within = omega arith; so_far = refl }
 
 pub returns : goal.returns
 returns c =
-    let ts = terms c.args.coefficients.now c.args.us.now c.args.vs.now in
+    let ts = terms c.args.table.now in
     c.loop-from.invariant.so_far
-    ∙ ap (λ (l : List Term). class_sums l c.args.pu c.args.pv)
-    (take_all c.loop-from.from ts
-    (omega (arith, c.loop-from-test.false, length_terms c.args.coefficients.now c.args.us.now c.args.vs.now c.requires.us_len.0 c.requires.us_len.1)))
+    ∙ ap (λ (l : List Term). class_sums l c.args.powers.of_u c.args.powers.of_v)
+    (take_all c.loop-from.from ts (omega (arith, c.loop-from-test.false, length_terms c.args.table.now)))

@@ -59,8 +59,6 @@ loop-k-init c =
     let f : SFits w64 c.args.u.0 = search rules in
     let s : c.size-size.result ≤ 255000000 = omega (arith, size_is c.args.u.0 f c.size-size.ensures) in
     record {
-      low = omega arith;
-      high = omega arith;
       last = refl;
       long = refl;
       done = (λ i. pos scale ∷ (as_signed c.size-size.result s {n = 1} (lit< tt) refl).reads i ∷ []);
@@ -71,7 +69,7 @@ overflow_mul-power c =
     let f : SFits w64 c.args.u.0 = search rules in
     let s : c.size-size.result ≤ 255000000 = omega (arith, size_is c.args.u.0 f c.size-size.ensures) in
     let p : c.loop-k.power * c.size-size.result ≤ 18446744073609551616 =
-    rw c.loop-k.invariant.last (divided c.size-size.result s (c.loop-k.k - 1) (omega (arith, c.loop-k-test.true, c.loop-k.invariant.low))) in
+    rw c.loop-k.invariant.last (divided c.size-size.result s (c.loop-k.k - 1) (omega (arith, c.loop-k-test.true, c.loop-k.auto.k))) in
     record { fits = omega (arith, p) }
 
 pub nearest-power-requires : goal.nearest-power-requires
@@ -79,7 +77,7 @@ nearest-power-requires c =
     let f : SFits w64 c.args.u.0 = search rules in
     let s : c.size-size.result ≤ 255000000 = omega (arith, size_is c.args.u.0 f c.size-size.ensures) in
     let p : c.loop-k.power * c.size-size.result ≤ 18446744073609551616 =
-    rw c.loop-k.invariant.last (divided c.size-size.result s (c.loop-k.k - 1) (omega (arith, c.loop-k-test.true, c.loop-k.invariant.low))) in
+    rw c.loop-k.invariant.last (divided c.size-size.result s (c.loop-k.k - 1) (omega (arith, c.loop-k-test.true, c.loop-k.auto.k))) in
     (lit< tt, omega (arith, p))
 
 pub overflow_cast-out-in-loop-k : goal.overflow_cast-out-in-loop-k
@@ -87,7 +85,7 @@ overflow_cast-out-in-loop-k c =
     let f : SFits w64 c.args.u.0 = search rules in
     let s : c.size-size.result ≤ 255000000 = omega (arith, size_is c.args.u.0 f c.size-size.ensures) in
     let is : c.nearest-power.result ≡ limit scale c.size-size.result c.loop-k.k =
-    c.nearest-power.ensures ∙ next c.size-size.result c.loop-k.k c.loop-k.invariant.low c.loop-k.invariant.last in
+    c.nearest-power.ensures ∙ next c.size-size.result c.loop-k.k c.loop-k.auto.k c.loop-k.invariant.last in
     record { sfits = omega (arith, is, small c.size-size.result s c.loop-k.k (omega (arith, c.loop-k-test.true))) }
 
 pub loop-k-preserved : goal.loop-k-preserved
@@ -97,12 +95,10 @@ loop-k-preserved c =
     let k = c.loop-k.k in
     let i = c.loop-k.invariant in
     let s : size ≤ 255000000 = omega (arith, size_is c.args.u.0 f c.size-size.ensures) in
-    let is : c.nearest-power.result ≡ limit scale size k = c.nearest-power.ensures ∙ next size k i.low i.last in
+    let is : c.nearest-power.result ≡ limit scale size k = c.nearest-power.ensures ∙ next size k c.loop-k.auto.k i.last in
     let one-back : k ≡ k + 1 - 1 = omega arith in
     let low_k : k < 10 = omega (arith, c.loop-k-test.true) in
     record {
-      low = omega (arith, i.low);
-      high = omega (arith, c.loop-k-test.true);
       last = is ∙ ap (limit scale size) one-back;
       long = simp length-set i.long;
       done = one_more c.loop-k.out size k (omega (arith, i.long, low_k)) i.done (power_is size s {n = k} low_k is);
@@ -117,7 +113,7 @@ scaled-requires c =
     let f : SFits w64 c.args.u.0 = search rules in
     let size = c.size-size.result in
     let s : size ≤ 255000000 = omega (arith, size_is c.args.u.0 f c.size-size.ensures) in
-    let end : c.loop-k.k ≡ 9 = nine c.loop-k.invariant.high c.loop-k-test.false in
+    let end : c.loop-k.k ≡ 9 = nine (c.loop-k.auto.k-end (lit≤ tt)) c.loop-k-test.false in
     let eighth : c.loop-k.power ≡ limit scale size 8 = c.loop-k.invariant.last ∙ ap (λ (n : ℕ). limit scale size (n - 1)) end in
     (omega (arith, eighth, small size s 8 (lit< tt)), omega (arith, s))
 
@@ -126,7 +122,7 @@ overflow_cast-out-2 c =
     let f : SFits w64 c.args.u.0 = search rules in
     let size = c.size-size.result in
     let s : size ≤ 255000000 = omega (arith, size_is c.args.u.0 f c.size-size.ensures) in
-    let end : c.loop-k.k ≡ 9 = nine c.loop-k.invariant.high c.loop-k-test.false in
+    let end : c.loop-k.k ≡ 9 = nine (c.loop-k.auto.k-end (lit≤ tt)) c.loop-k-test.false in
     let eighth : c.loop-k.power ≡ limit scale size 8 = c.loop-k.invariant.last ∙ ap (λ (n : ℕ). limit scale size (n - 1)) end in
     let ninth : c.scaled.result ≡ limit scale size 9 = c.scaled.ensures ∙ next size 9 (lit≤ tt) eighth in
     record { sfits = omega (arith, ninth, small size s 9 (lit< tt)) }
@@ -138,7 +134,7 @@ returns c =
     let e = c.loop-k.invariant in
     let out = c.loop-k.out in
     let s : size ≤ 255000000 = omega (arith, size_is c.args.u.0 f c.size-size.ensures) in
-    let end : c.loop-k.k ≡ 9 = nine e.high c.loop-k-test.false in
+    let end : c.loop-k.k ≡ 9 = nine (c.loop-k.auto.k-end (lit≤ tt)) c.loop-k-test.false in
     let eighth : c.loop-k.power ≡ limit scale size 8 = e.last ∙ ap (λ (n : ℕ). limit scale size (n - 1)) end in
     let ninth : c.scaled.result ≡ limit scale size 9 = c.scaled.ensures ∙ next size 9 (lit≤ tt) eighth in
     sym (take_all 10 (set out 9 (to_z w64 c.scaled.result)) (simp length-set (omega (arith, e.long))))
