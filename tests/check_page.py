@@ -30,9 +30,8 @@ FILES = {1: 'cyprus', 2: 'minna', 3: 'alaska', 4: 'qatar', 5: 'kandawala', 6: 'n
 ENDS = ['south', 'north', 'west', 'east']
 FRAME = ['family', 'K of U', 'K of V', 'centre of U', 'centre of V', *ENDS]
 # of each equation the table in the code and in the definition
-COLUMNS = {'dLat': 'LATITUDE', 'dLon': 'LONGITUDE', 'dH': 'HEIGHT', 'N': 'HEIGHT'}
+TABLES = {'dLat': 'LATITUDE', 'dLon': 'LONGITUDE', 'dH': 'HEIGHT', 'N': 'HEIGHT'}
 DEFINED = {'dLat': 'd_lat', 'dLon': 'd_lon', 'dH': 'd_h', 'N': 'n'}
-VALUES = ['first', 'second', 'third']
 UNITS = {5: ('"', '0.00001"'), 3: (' m', '0.001 m')}     # by decimal places: the page's unit, and the code's
 IN_ALL = 157
 wrong = []
@@ -49,26 +48,13 @@ def page_of(code):
     return source(f'specs/{FILES[code].capitalize()}.antt')
 
 
-def column(text, name):
-    """The numbers of a constant array, as many as it is declared to have, and the comment after each."""
-    count, body = re.search(rf'^const {name}: \[\w+; (\d+)\] = \[(.*?)\];', text, re.M | re.S).groups()
-    rows = body.strip('\n').split('\n') if '\n' in body else [f'    {n.strip()},' for n in body.split(',')]
-    found = [re.fullmatch(r'    (-?[\d_]+),(?: // (.*))?', row) for row in rows]
-    if not all(found) or len(found) != int(count):
-        raise SystemExit(f'{name}: a row that is no number, or another count than {count}')
-    return [int(m[1]) for m in found], [m[2] or '' for m in found]
-
-
 def coded(text, name):
-    """The terms that the code holds, and the comment after each coefficient."""
-    numbers, comments = column(text, COLUMNS[name])
-    powers = [column(text, f'{COLUMNS[name]}_{letter}') for letter in 'UV']
-    if not len(numbers) == len(powers[0][0]) == len(powers[1][0]):
-        raise SystemExit(f'{COLUMNS[name]}: columns of different lengths')
-    letters = [comment.split(' ')[-1] if 'U' in comment or 'V' in comment else '1' for comment in comments]
-    if any(any(beside) and beside != letters for _, beside in powers):
-        wrong.append(f'{COLUMNS[name]}: a comment beside a power is not of its term')
-    return list(zip(numbers, powers[0][0], powers[1][0])), comments
+    """The terms that the code holds, as many as its table is declared to have, and the comment after each."""
+    count, body = re.search(rf'^const {TABLES[name]}: \[Term; (\d+)\] = \[\n(.*?)\n\];', text, re.M | re.S).groups()
+    found = [re.fullmatch(r'    Term\((-?[\d_]+), (\d), (\d)\), // (.*)', row) for row in body.split('\n')]
+    if not all(found) or len(found) != int(count):
+        raise SystemExit(f'{TABLES[name]}: a row that is no term, or another count than {count}')
+    return [(int(m[1]), int(m[2]), int(m[3])) for m in found], [m[4] for m in found]
 
 
 def defined(text, name):
@@ -96,14 +82,13 @@ def angles(numbers):
 def coded_frame(code, text):
     """What FRAME names, in the code: every line of the frame is of its form."""
     degrees = r'(\d+) \* LocalLatitude::DEGREE'
-    rows = ['    geoid: (true|false),']
+    rows = ['    family: Family::(Shift|Geoid),']
     for axis in 'uv':
         rows += [rf'    {axis}: Axis \{{', '        factor: K,', rf'        offset: K \* {degrees},', r'    \},']
     rows += [rf'    {end}: {degrees}(?: \+ (\d+) \* LocalLatitude::MINUTE)?,' for end in ENDS]
     form = '\n'.join([r'const K: i64 = ([\d_]+);', '', r'pub\(crate\) const FRAME: Frame = Frame \{', *rows, r'\};'])
-    factor, is_geoid, u, v, *ends = only(form, text, f'code {code}: the frame of the code')
-    family = 'geoid' if is_geoid == 'true' else 'shift'
-    return dict(zip(FRAME, [family, int(factor), int(factor), (int(u), 0), (int(v), 0), *angles(ends)], strict=True))
+    factor, family, u, v, *ends = only(form, text, f'code {code}: the frame of the code')
+    return dict(zip(FRAME, [family.lower(), int(factor), int(factor), (int(u), 0), (int(v), 0), *angles(ends)], strict=True))
 
 
 def defined_frame(code, text):
@@ -119,18 +104,13 @@ def defined_frame(code, text):
 # What is compared.
 def sentence(text, name):
     """The printed equation in the comment above a table."""
-    lines = re.search(rf'((?:^// .*\n)+)const {COLUMNS[name]}:', text, re.M)[1].split('\n')
+    lines = re.search(rf'((?:^// .*\n)+)const {TABLES[name]}:', text, re.M)[1].split('\n')
     return re.sub(r' +', ' ', ' '.join(line[len('// '):] for line in lines if line)).split(' = ')[1].strip()
 
 
 def family_of(code):
     """As the code and the definition call it: that of three equations, or of one."""
     return 'shift' if len(document_000.equations(code)) == 3 else 'geoid'
-
-
-def squeezed(source):
-    """Without its layout: spaces, and the comma after the last of several lines of parameters."""
-    return re.sub(r'\s', '', source).replace(',)', ')')
 
 
 def bounds(code):
@@ -141,15 +121,12 @@ def bounds(code):
 
 
 def placed(code, text):
-    """Each table stands under its own name, in the definition's page and in the code's calls, and is divided by the scale."""
+    """Each table stands under its own name, in the definition's page and in the code's call."""
     bounds(code)               # ends where the definition has it otherwise
-    tables = [COLUMNS[name] for name, *_ in document_000.equations(code)]
-    calls = [f'value(Parts::DIVISOR, &{name}, &{name}_U, &{name}_V, powers, place)' for name in tables] + ['0', '0']
-    flag = f'geoid: {str(family_of(code) == "geoid").lower()},'
-    fields = flag + ''.join(f'{value}: {call},' for value, call in zip(VALUES, calls))
+    tables = ', '.join(f'&{TABLES[name]}' for name, *_ in document_000.equations(code))
     body, = only(r'pub\(crate\) fn values\(.*\n(?: .*\n)*\{\n((?: .*\n)*)\}', text, f'code {code}: values')
-    if squeezed(body) != squeezed(f'let powers = Powers::of(place.u, place.v); Values {{{fields}}}'):
-        wrong.append(f'code {code}: a table stands for another in the code, or its sum is not over the scale')
+    if body.strip() != f'{family_of(code)}_values(place, {tables})':
+        wrong.append(f'code {code}: a table stands for another in the code')
 
 
 def area(code):
@@ -178,7 +155,7 @@ def compared(code, name, printed, text, definition):
         wrong.append(f'code {code}, {name}: the page, the definition and the code are not the same')
     by_term = {(i, j): term for term, _, i, j in printed}
     if comments != [by_term[i, j] for _, i, j in page]:
-        wrong.append(f'code {code}, {name}: a comment after a coefficient is not the page\'s text')
+        wrong.append(f'code {code}, {name}: a comment after a term is not the page\'s text')
     if sentence(text, name) != ' '.join(term for term, *_ in printed):
         wrong.append(f'code {code}, {name}: the comment above the table is not the page\'s text')
     return {(i, j): (c, i, j) for c, i, j in held}

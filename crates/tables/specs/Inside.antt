@@ -1,15 +1,16 @@
 -- The code's own datums, frames and values, and what its functions ask of who calls them. No promise of an entry point speaks
 -- of it.
-use Rattle.std.specs.Prelude.{◌≡◌, true, false, cond, List, ℕ, ◌≤◌, ℤ, pos, nat_abs, ◌-ℤ◌, ◌*ℤ◌, get_or}
+use Rattle.std.specs.Prelude.{List, ℕ, ◌≤◌, ℤ, pos, nat_abs, ◌-ℤ◌, ◌*ℤ◌, get_or}
 use Rattle.std.specs.Int.{w32}
 use Rattle.std.proofs.Common.{SFits}
 use Rattle.whole.specs.Round.{round_div, scale}
 use Rattle.equation.specs.Equation.{Term, equation_of}
 use Rattle.equation.specs.Room.{Room}
 use Rattle.equation.specs.Powers.{powers_of}
-use Rattle.equation.specs.Inside.{size_powers}
+use Rattle.equation.specs.Inside.{size_powers, terms}
+use Rattle.equation.specs.declared.Term as table
 use Rattle.tables.specs.Page as page
-use Rattle.tables.specs.Page.{Page, Equation, Family, shift, geoid, is_geoid, Each}
+use Rattle.tables.specs.Page.{Page, Equation, ◌near◌, Family, shift, geoid, Each}
 use Rattle.tables.specs.Rule.{evaluated}
 use Rattle.tables.specs.Cyprus.{cyprus}
 use Rattle.tables.specs.Tables.{pages}
@@ -17,7 +18,10 @@ use Rattle.tables.specs.declared.Datum.{Datum}
 use Rattle.tables.specs.declared.Datum.TheVariants.{Cyprus, Minna, Alaska, Qatar, Kandawala, Nahrwan}
 use Rattle.tables.specs.declared.Axis.{Axis}
 use Rattle.tables.specs.declared.Frame.{Frame}
+use Rattle.tables.specs.declared.Family as code
+use Rattle.tables.specs.declared.Family.TheVariants as Gives
 use Rattle.tables.specs.declared.Values.{Values}
+use Rattle.tables.specs.declared.Values.TheVariants as Have
 
 -- ---- the code's datums: the row of each in a list by codes, and its page
 abbrev pub row_of : Datum → ℕ
@@ -31,13 +35,18 @@ row_of Nahrwan = 5
 abbrev pub datum_page : Datum → Page
 datum_page datum = get_or pages (row_of datum) cyprus
 
+-- ---- its family
+abbrev pub family_of : {A : Type 0} → Family A → code.Family
+family_of (shift a b c) = Gives.Shift
+family_of (geoid n) = Gives.Geoid
+
 -- ---- a frame: the family, how u and v come, and the area. The axes' divisor is a literal of the code
 abbrev pub axis_of : page.Axis → Axis
 axis_of axis = record { factor = pos axis.factor; offset = axis.offset }
 
 abbrev pub frame_of : Page → Frame
 frame_of page = record {
-  geoid = is_geoid page.equations;
+  family = family_of page.equations;
   u = axis_of page.u;
   v = axis_of page.v;
   south = page.south;
@@ -50,13 +59,17 @@ frame_of page = record {
 abbrev pub on_axis : Axis → ℤ → ℤ
 on_axis axis x = round_div (axis.factor *ℤ x -ℤ axis.offset) 3600000
 
--- ---- the values of a datum: dLat, dLon and dH, or N and two zeros
+-- ---- the values of a datum: dLat, dLon and dH, or N
 abbrev pub values_say : Values → Family ℤ
-values_say v = cond v.geoid (geoid v.first) (shift v.first v.second v.third)
+values_say (Have.Shift d_lat d_lon d_h) = shift d_lat d_lon d_h
+values_say (Have.Geoid n) = geoid n
 
-abbrev pub Say : Values → Family ℤ → Type 0
-Say v (shift d_lat d_lon d_h) = (v.geoid ≡ false) × (v.first ≡ d_lat) × (v.second ≡ d_lon) × (v.third ≡ d_h)
-Say v (geoid n) = (v.geoid ≡ true) × (v.first ≡ n) × (v.second ≡ pos 0) × (v.third ≡ pos 0)
+-- ---- the equations of tables of the code, whose coefficients are in the units of the answer; they have no bound
+abbrev pub shift_by : List table.Term → List table.Term → List table.Term → Family Equation
+shift_by latitude longitude height = shift (terms latitude near 0) (terms longitude near 0) (terms height near 0)
+
+abbrev pub geoid_by : List table.Term → Family Equation
+geoid_by height = geoid (terms height near 0)
 
 -- ---- what the equations give by u and v
 abbrev pub equation_at : ℕ → List Term → ℤ → ℤ → ℤ

@@ -8,13 +8,13 @@ mod minna;
 mod nahrwan;
 mod qatar;
 
-ghost use Rattle.std.specs.Prelude.{◌≡◌, true, ◌≤◌, nat_abs, length};
-ghost use Rattle.equation.specs.Equation.{terms};
-ghost use Rattle.equation.specs.Inside.{both_powers};
+ghost use Rattle.std.specs.Prelude.{◌≡◌, true, ◌≤◌, nat_abs};
+ghost use Rattle.whole.specs.Round.{scale};
+ghost use Rattle.equation.specs.Inside.{terms};
 ghost use Rattle.tables.specs.Rule.{counted_from, enclosed, in_box, worked};
-ghost use Rattle.tables.specs.Inside.{datum_page, frame_of, on_axis, equation_at, Say, Fits, Close};
+ghost use Rattle.tables.specs.Inside.{datum_page, frame_of, on_axis, shift_by, geoid_by, equation_at, evaluated_at, values_say, Fits, AllFit, Close};
 
-use equation::Powers;
+use equation::{Powers, Term};
 use kinds::{LocalLatitude, LocalLongitude, LocalPosition, within};
 use whole::Parts;
 
@@ -46,7 +46,7 @@ impl Datum {
     // What the equations give for a position of the area.
     pub fn values(self, position: LocalPosition) -> Values
         requires { in_box (datum_page self) position.latitude.0 position.longitude.0 ≡ true }
-        ensures { Say result (worked (datum_page self) position.latitude.0 position.longitude.0) }
+        ensures { values_say result ≡ worked (datum_page self) position.latitude.0 position.longitude.0 }
     {
         let frame = self.frame();
         let place = frame.place(position);
@@ -61,20 +61,29 @@ impl Datum {
     }
 }
 
-// The values of a datum: dLat, dLon and dH; or, of a geoid datum, N and two zeros.
-#[derive(Clone, Copy)]
-pub struct Values {
-    pub geoid: bool,
-    pub first: i32,
-    pub second: i32,
-    pub third: i32,
+// What a datum has for a point: a shift, or a geoid height.
+#[derive(Clone, Copy, PartialEq, Eq)]
+pub enum Family {
+    Shift,
+    Geoid,
 }
 
-// What is particular to a datum but its tables: whether it has geoid heights and no shifts, how u and v come of a position,
-// and the ends of the area in ms, of which one west of Greenwich may be negative.
+// The values of a datum: dLat, dLon and dH, or N.
+#[derive(Clone, Copy)]
+pub enum Values {
+    Shift {
+        latitude: i32,
+        longitude: i32,
+        height: i32,
+    },
+    Geoid(i32),
+}
+
+// What is particular to a datum but its tables: its family, how u and v come of a position, and the ends of the area in ms, of
+// which one west of Greenwich may be negative.
 #[derive(Clone, Copy)]
 pub struct Frame {
-    pub geoid: bool,
+    pub family: Family,
     pub u: Axis,
     pub v: Axis,
     pub south: i64,
@@ -142,24 +151,40 @@ impl Axis {
     }
 }
 
-// One equation at a place: its sum, divided and rounded once, of whose answer 4 bytes are known to be enough. The divisor is a
-// literal of who calls.
-pub(crate) fn value(
-    divisor: u64,
-    coefficients: &[i64],
-    us: &[u8],
-    vs: &[u8],
-    powers: Powers,
+// The values of a shift datum at a place, by its three tables. It is put into each function that calls it, where a table is a
+// constant, of which the compiler makes straight code.
+#[inline(always)]
+pub(crate) fn shift_values(
     place: Place,
-) -> i32
-    requires le_divisor { (2 ≤ divisor) × (divisor ≤ 4611686018427387904) }
-    requires us_len { (length us.now ≡ length coefficients.now) × (length vs.now ≡ length coefficients.now) }
-    requires powers_value { powers ≡ both_powers place.u.0 place.v.0 }
-    requires fits { Fits divisor (terms coefficients.now us.now vs.now) place.u.0 place.v.0 }
-    ensures { result ≡ equation_at divisor (terms coefficients.now us.now vs.now) place.u.0 place.v.0 }
+    latitude: &[Term],
+    longitude: &[Term],
+    height: &[Term],
+) -> Values
+    requires { AllFit (shift_by latitude.now longitude.now height.now) place.u.0 place.v.0 }
+    ensures { values_say result ≡ evaluated_at (shift_by latitude.now longitude.now height.now) place.u.0 place.v.0 }
 {
-    whole::rounded(
-        equation::sum(coefficients, us, vs, powers, place.u, place.v),
-        divisor,
-    ) as i32
+    let powers = Powers::of(place.u, place.v);
+    Values::Shift {
+        latitude: value(latitude, powers),
+        longitude: value(longitude, powers),
+        height: value(height, powers),
+    }
+}
+
+// The geoid height of a geoid datum, likewise.
+#[inline(always)]
+pub(crate) fn geoid_values(place: Place, height: &[Term]) -> Values
+    requires { AllFit (geoid_by height.now) place.u.0 place.v.0 }
+    ensures { values_say result ≡ evaluated_at (geoid_by height.now) place.u.0 place.v.0 }
+{
+    let powers = Powers::of(place.u, place.v);
+    Values::Geoid(value(height, powers))
+}
+
+// One equation: its sum, divided and rounded once, of whose answer 4 bytes are known to be enough.
+fn value(table: &[Term], powers: Powers) -> i32
+    requires { Fits scale (terms table.now) powers.u.0 powers.v.0 }
+    ensures { result ≡ equation_at scale (terms table.now) powers.u.0 powers.v.0 }
+{
+    whole::rounded(equation::sum(table, powers), Parts::DIVISOR) as i32
 }
