@@ -2,22 +2,15 @@
 use mathlib.Core.Path.{◌≡◌, refl}
 use mathlib.Core.Bool.{Bool, true, ◌&&◌}
 use mathlib.Core.List.{List, [], ◌∷◌, ◌++◌}
-use Prim.Native.Nat.{ℕ, zero, suc, ◌<◌}
-use native.Mathlib.Omega.{arith}
+use Prim.Native.Nat.{ℕ, zero, suc}
 use lib.Dec.{T}
-use lib.ListN.{length, take, drop, get_or}
+use lib.ListN.{take, drop, get_or}
 use mir.Facts.{and_yes}
 use Rattle.whole.specs.Every.{every}
 use Rattle.whole.proofs.Bools.{both, joined}
 
 module _ {A : Type 0} (f : A → Bool) where
-  -- what every one passes, the one at a place passes
-  pub every_at : (l : List A) (other : A) (n : ℕ) → n < length l → every f l ≡ true → f (get_or l n other) ≡ true
-  every_at [] other n k h = absurd (omega arith)
-  every_at (x ∷ l) other zero k h = (both (f x) (every f l) h).0
-  every_at (x ∷ l) other (suc n) k h = every_at l other n (omega arith) (both (f x) (every f l) h).1
-
-  -- and every one in a part passes it
+  -- what every one passes, every one in a part passes
   pub every_cut : (n : ℕ) (l : List A) → every f l ≡ true → (every f (take n l) ≡ true) × (every f (drop n l) ≡ true)
   every_cut zero l h = (refl, h)
   every_cut (suc n) [] h = (refl, refl)

@@ -105,21 +105,6 @@ pub ruleset ring₀ = (ring, mul-zero, zero-mul, add-zero, zero-add)
 pub pos_sub : (a b : ℕ) → pos a -ℤ pos b ≡ sub_ℕ a b
 pos_sub a b = same _ _ (omega (arith, add_is (pos a) (neg_ℤ (pos b)), neg_is (pos b), sub_is a b))
 
-pub pos-sub-≤ : (a b : ℕ) → b ≤ a → pos a -ℤ pos b ≡ pos (a - b)
-pos-sub-≤ a b h = same _ _ (omega (arith, add_is (pos a) (neg_ℤ (pos b)), neg_is (pos b)))
-
-pub negsuc_next : (k : ℕ) → negsuc k +ℤ pos 1 ≡ neg_ℤ (pos k)
-negsuc_next k = same _ _ (omega (arith, add_is (negsuc k) (pos 1), neg_is (pos k)))
-
-pub *ℤ-assoc : (x y z : ℤ) → (x *ℤ y) *ℤ z ≡ x *ℤ (y *ℤ z)
-*ℤ-assoc x y z = rw (by_diff x, by_diff y, by_diff z) (simp ring (diff_cong _ _ _ _ (omega arith)))
-
-pub *ℤ-+ℤ : (x y z : ℤ) → x *ℤ (y +ℤ z) ≡ x *ℤ y +ℤ x *ℤ z
-*ℤ-+ℤ x y z = rw (by_diff x, by_diff y, by_diff z) (simp ring (diff_cong _ _ _ _ (omega arith)))
-
-pub +ℤ-*ℤ : (x y z : ℤ) → (x +ℤ y) *ℤ z ≡ x *ℤ z +ℤ y *ℤ z
-+ℤ-*ℤ x y z = rw (by_diff x, by_diff y, by_diff z) (simp ring (diff_cong _ _ _ _ (omega arith)))
-
 pub *ℤ--ℤ : (x y z : ℤ) → x *ℤ (y -ℤ z) ≡ x *ℤ y -ℤ x *ℤ z
 *ℤ--ℤ x y z = rw (by_diff x, by_diff y, by_diff z) (simp ring (diff_cong _ _ _ _ (omega arith)))
 

@@ -2,12 +2,12 @@
 use mathlib.Core.Path.{◌≡◌, refl, sym, ap, ◌∙◌, subst}
 use mathlib.Core.Bool.{Bool, true, false, not, cond}
 use Prim.Native.Nat.{ℕ, zero, suc, ◌+◌, ◌*◌, ◌<◌}
-use native.Mathlib.Nat.{add-zero, zero-add, zero-mul, mul-zero, div-eq_of_lt}
+use native.Mathlib.Nat.{zero-mul, mul-zero, div-eq_of_lt}
 use native.Mathlib.Omega.{arith}
-use lib.Dec.{T, ltb→lt}
+use lib.Dec.{T}
 use borrow.Author.Tests.{ltb-true}
-use lib.IntN.{ℤ, pos, negsuc, neg_ℤ, nat_abs, ◌+ℤ◌, ◌-ℤ◌, ◌*ℤ◌, +ℤ_idr, +ℤ_idl, neg_ℤ-neg_ℤ, neg_ℤ-+ℤ}
-use lib.Signed.{mag, non_neg, lt_z, ◌<ℤ◌}
+use lib.IntN.{ℤ, pos, negsuc, neg_ℤ, nat_abs, ◌+ℤ◌, ◌-ℤ◌, ◌*ℤ◌, neg_ℤ-neg_ℤ, neg_ℤ-+ℤ}
+use lib.Signed.{mag, non_neg, lt_z}
 use Rattle.whole.specs.Round.{round_half_up, round_div}
 use Rattle.whole.specs.Sign.{with_sign}
 use Rattle.whole.proofs.Ring.{ -ℤ-negℤ, negℤ-*ℤ, *ℤ-negℤ}
@@ -31,15 +31,6 @@ by_sign (negsuc n) = refl
 -- zero has no sign
 zero_signed : {n : ℕ} → n ≡ 0 → pos n ≡ signed false n
 zero_signed e = ap pos e ∙ ap (signed false) (sym e)
-
-pub signed-+ : (s : Bool) (a b : ℕ) → signed s a +ℤ signed s b ≡ signed s (a + b)
-signed-+ true a b = refl
-signed-+ false zero b = +ℤ_idl (neg_ℤ (pos b)) ∙ ap (signed false) (sym (zero-add b))
-signed-+ false (suc a) zero = +ℤ_idr (negsuc a) ∙ ap (signed false) (sym (add-zero (suc a)))
-signed-+ false (suc a) (suc b) = ap (signed false) (more a b)
-  where
-    more : (a b : ℕ) → suc (suc (a + b)) ≡ suc a + suc b
-    more a b = omega arith
 
 pub signed-* : (s t : Bool) (a b : ℕ) → signed s a *ℤ signed t b ≡ signed (alike s t) (a * b)
 signed-* true true a b = refl
@@ -99,14 +90,6 @@ with-* false true x y = *ℤ-negℤ x y
 with-* false false x y = refl
 
 -- ---- what a test of the sign says
-pub above_is : {x : ℤ} → pos 0 <ℤ x → x ≡ pos (nat_abs x)
-above_is {x = pos n} h = refl
-above_is {x = negsuc n} h = absurd h.lt
-
-pub above_zero : {x : ℤ} → pos 0 <ℤ x → 0 < nat_abs x
-above_zero {x = pos n} h = ltb→lt 0 n h.lt
-above_zero {x = negsuc n} h = absurd h.lt
-
 pub below_zero : (x : ℤ) → lt_z x (pos 0) ≡ true → x ≡ negsuc (mag x)
 below_zero (pos n) t = absurd (omega (arith, ltb-true n 0 t))
 below_zero (negsuc n) t = refl

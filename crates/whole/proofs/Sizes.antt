@@ -1,5 +1,6 @@
 -- How large a number is: `nat_abs` of a sum, a difference, a product and a rounded quotient.
 -- It turns a range of ℤ into a bound in ℕ, which `omega` reads. Assumes nothing.
+use Rattle.std.proofs.lemmas.Int.{unsigned_abs-mul}
 use mathlib.Core.Path.{◌≡◌, refl, sym, ap, ◌∙◌}
 use Prim.Native.Nat.{ℕ, zero, suc, ◌+◌, ◌-◌, ◌*◌, ◌<◌, ◌≤◌}
 use native.Mathlib.Nat.{mul-le-mul}
@@ -49,10 +50,7 @@ same_size (negsuc a) (negsuc b) e h = ap negsuc (omega arith)
 
 -- ---- products
 pub abs-* : (x y : ℤ) → nat_abs (x *ℤ y) ≡ nat_abs x * nat_abs y
-abs-* (pos a) (pos b) = refl
-abs-* (pos a) (negsuc b) = abs_neg (pos (a * suc b))
-abs-* (negsuc a) (pos b) = abs_neg (pos (suc a * b))
-abs-* (negsuc a) (negsuc b) = refl
+abs-* = unsigned_abs-mul
 
 pub abs-*-≤ : (x y : ℤ) {a b : ℕ} → nat_abs x ≤ a → nat_abs y ≤ b → nat_abs (x *ℤ y) ≤ a * b
 abs-*-≤ x y h k = omega (arith, abs-* x y, mul-le-mul h k)

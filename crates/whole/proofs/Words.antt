@@ -2,14 +2,13 @@
 -- number x, which the width holds. One law for each arity serves every operation at every width, so that a derivation
 -- goes up the code, an operation a step, and no goal is rewritten: begin with `of` and `lit`, go on with `gives`, answer
 -- an operation's need with `asks`, and end with `.reads`. Assumes nothing.
+use Rattle.std.proofs.lemmas.Int.{fits_signed_from_abs}
 use mathlib.Core.Path.{◌≡◌, sym, ap, ◌∙◌, subst}
 use mathlib.Core.Bool.{Bool}
-use Prim.Native.Nat.{ℕ, zero, suc, ◌<◌, ◌≤◌, ◌^◌}
-use native.Mathlib.Nat.{lt_of_le_of_lt}
-use native.Mathlib.Omega.{arith}
+use Prim.Native.Nat.{ℕ, ◌<◌, ◌≤◌, ◌^◌}
 use lib.Dec.{T, ltb, ltb→lt}
-use lib.IntN.{ℤ, pos, negsuc, neg_ℤ, nat_abs, ◌-ℤ◌, +ℤ_idl}
-use lib.Signed.{mag, nat_abs-le, non_neg}
+use lib.IntN.{ℤ, pos, nat_abs}
+use lib.Signed.{nat_abs-le, non_neg}
 use lib.Pow.{pow_pos}
 use mir.Syntax.{Width, w32, w64}
 use mir.Val.{bits, hbits, Fits, SFits, to_z, of_z}
@@ -54,28 +53,9 @@ module _ (op : ℤ → ℤ → ℤ) {w : Width} {a b : ℕ} {x y : ℤ} (p : Hol
   pub gives : SFits w (op x y) → Holds w (wr w op a b) (op x y)
   gives f = record { reads = to_z-of_z (asks f) ∙ same; holds = f }
 
--- -x, which the code has as 0 - x
-module _ {w : Width} {a : ℕ} {x : ℤ} (p : Holds w a x) (f : SFits w (neg_ℤ x)) where
-  minus_fits : SFits w (pos 0 -ℤ x)
-  minus_fits = subst (SFits w) (sym (+ℤ_idl (neg_ℤ x))) f
-
-  pub negated_asks : SFits w (pos 0 -ℤ to_z w a)
-  negated_asks = subst (λ (z : ℤ). SFits w (pos 0 -ℤ z)) (sym p.reads) minus_fits
-
-  pub negated : Holds w (of_z w (pos 0 -ℤ to_z w a)) (neg_ℤ x)
-  negated = record { reads = to_z-of_z negated_asks ∙ ap (λ (z : ℤ). pos 0 -ℤ z) p.reads ∙ +ℤ_idl (neg_ℤ x); holds = f }
-
 -- a test of two words, as one of their numbers
 pub tested : (op : ℤ → ℤ → Bool) {w : Width} {a b : ℕ} {x y : ℤ} {t : Bool} → Holds w a x → Holds w b y → op (to_z w a) (to_z w b) ≡ t → op x y ≡ t
 tested op p q e = sym (λ i. op (p.reads i) (q.reads i)) ∙ e
-
--- a divisor that is not zero
-pub not_zero : {w : Width} {b : ℕ} {y : ℤ} → Holds w b y → 0 < nat_abs y → 0 < b
-not_zero {w} {b} {y} q h = go b q.reads
-  where
-    go : (b : ℕ) → to_z w b ≡ y → 0 < b
-    go zero e = subst (λ (z : ℤ). 0 < nat_abs z) (sym e ∙ (zero_is {w = w}).reads) h
-    go (suc b) e = omega arith
 
 -- ---- casts between widths
 pub cast : {w : Width} (v : Width) {a : ℕ} {x : ℤ} → Holds w a x → SFits v x → Holds v (of_z v (to_z w a)) x
@@ -88,9 +68,6 @@ cast_asks {v = v} p f = subst (SFits v) (sym p.reads) f
 pub widened : {x : ℤ} → SFits w32 x → Holds w64 (of_z w64 (to_z w32 (of_z w32 x))) x
 widened f = cast w64 (of f) (sfits_widen tt f)
 
-pub widened_asks : {x : ℤ} → SFits w32 x → SFits w64 (to_z w32 (of_z w32 x))
-widened_asks f = cast_asks (of f) (sfits_widen tt f)
-
 -- a signed word made an unsigned one is its size
 pub to_unsigned : {w : Width} {a n : ℕ} → Holds w a (pos n) → nat_abs (to_z w a) ≡ n
 to_unsigned p = ap nat_abs p.reads
@@ -99,16 +76,8 @@ pub to_unsigned_asks : {w : Width} (v : Width) {a n : ℕ} → Holds w a (pos n)
 to_unsigned_asks v p h = subst (λ (z : ℤ). T (non_neg z) × Fits v (nat_abs z)) (sym p.reads) (tt, record { fits = h })
 
 -- ---- a range, as a bound on the size in ℕ
-mag-≤ : (z : ℤ) → mag z ≤ nat_abs z
-mag-≤ (pos n) = omega arith
-mag-≤ (negsuc n) = omega arith
-
 pub small : {w : Width} (z : ℤ) → nat_abs z < 2 ^ hbits w → SFits w z
-small z h = record { sfits = lt_of_le_of_lt (mag-≤ z) h }
-
-pub neg_fits : {w : Width} (k : ℕ) → k < 2 ^ hbits w → SFits w (neg_ℤ (pos k))
-neg_fits zero h = record { sfits = h }
-neg_fits (suc k) h = record { sfits = omega arith }
+small {w} = fits_signed_from_abs w
 
 pub sized : {w : Width} (z : ℤ) → SFits w z → nat_abs z ≤ 2 ^ hbits w
 sized z f = nat_abs-le z f.sfits

@@ -1,8 +1,8 @@
-// Whole numbers: division rounded to the nearest, the product of two scaled numbers, a size and a sign, the lesser of two, and the
-// laws that the toolchain's library lacks. No geodesy.
+// Whole numbers: division rounded to the nearest, the product of two scaled numbers, a sign, and the laws that the toolchain's
+// library lacks. No geodesy.
 #![tactic(auto)]
 
-ghost use Rattle.std.specs.Prelude.{◌≡◌, ◌+◌, ◌*◌, ◌/◌, ◌<◌, ◌≤◌, min, nat_abs};
+ghost use Rattle.std.specs.Prelude.{◌≡◌, ◌+◌, ◌*◌, ◌/◌, ◌<◌, ◌≤◌, nat_abs};
 ghost use Rattle.whole.specs.Round.{round_half_up, round_div, scale};
 ghost use Rattle.whole.specs.Sign.{with_sign};
 
@@ -24,7 +24,8 @@ pub fn rounded(n: i64, d: u64) -> i64
     requires { (2 ≤ d) × (d ≤ 4611686018427387904) }
     ensures { result ≡ round_div n d }
 {
-    with_sign(n < 0, nearest(size(n), d) as i64)
+    let size = n.unsigned_abs();
+    with_sign(n < 0, nearest(size, d) as i64)
 }
 
 // The same of sizes: an addition, and a division that is a multiplication and a shift where d is a literal.
@@ -52,22 +53,4 @@ pub fn scaled(p: u64, u: u64) -> u64
     let q = p / Parts::DIVISOR;
     let r = p - q * Parts::DIVISOR;
     q * u + nearest(r * u, Parts::DIVISOR)
-}
-
-// How far x is from zero, of the least i64 too, whose negative is no i64.
-pub fn size(x: i64) -> u64
-    ensures { result ≡ nat_abs x }
-{
-    if x < 0 {
-        (-(x + 1)) as u64 + 1
-    } else {
-        x as u64
-    }
-}
-
-// The lesser of two.
-pub fn least(a: usize, b: usize) -> usize
-    ensures { result ≡ min a b }
-{
-    if a < b { a } else { b }
 }
