@@ -1,16 +1,15 @@
 -- A number of billionths with nine places: how it is written, how long it is, and that no two are alike. Assumes nothing.
 use mathlib.Core.Path.{◌≡◌, refl, sym, ap, ◌∙◌}
 use mathlib.Core.List.{List, [], ◌∷◌, ◌++◌}
-use Prim.Native.Nat.{ℕ, suc, ◌+◌, ◌-◌, ◌*◌, ◌/◌, ◌%◌, ◌^◌, ◌<◌, ◌≤◌}
+use Prim.Native.Nat.{ℕ, suc, ◌+◌, ◌*◌, ◌/◌, ◌%◌, ◌^◌, ◌<◌, ◌≤◌}
 use native.Mathlib.Nat.{div-one}
 use native.Mathlib.Omega.{arith}
 use lib.IntN.{ℤ, pos, negsuc, nat_abs}
-use lib.ListN.{length, take, drop, set, length-append}
-use borrow.Rule.Slice.PartMut.{put_mid}
+use lib.ListN.{length, drop, set, length-append}
 use Rattle.whole.specs.Places.{in_places}
 use Rattle.whole.specs.Digits.{from_digits, digits}
 use Rattle.whole.proofs.Digits.{number_of}
-use Rattle.kinds.proofs.Writing.{byte_after, grown}
+use Rattle.kinds.proofs.Writing.{byte_after}
 use Rattle.decimal.specs.Decimal.{decimal, billion, billionths, nine_places}
 use Rattle.decimal.proofs.Numbers.{unpadded_short, digits_long, at_point}
 use Rattle.decimal.proofs.Apart.{stays, one_more, any_width, digits_say, signed_apart}
@@ -60,19 +59,8 @@ module _ (n : ℕ) where
   pub places_long : {ten : List ℕ} → ten ≡ digits 10 (n % billion) → length (set ten 0 46) ≡ 10
   places_long is-ten = ap length (pointed is-ten) ∙ omega (arith, digits_long 9 (n % billion))
 
-  -- d is the line as it came, line what stands there after r digits, and new what was lent from there on, after k bytes
-  pub all_written : {r k : ℕ} {ten line : List ℕ} (d new : List ℕ) → r ≡ length (decimal (n / billion)) → line ≡ decimal (n / billion) ++ drop r d → ten ≡ digits 10 (n % billion)
-      → k ≡ length (set ten 0 46) → new ≡ set ten 0 46 ++ drop k (take (length line - r) (drop r line))
-      → (r + k ≡ length (billionths n)) × (put_mid r (length line - r) line new ≡ billionths n ++ drop (r + k) d)
-  all_written {r} {k} {ten} {line} d new is-r is-line is-ten is-k is-new =
-      let src : List ℕ = set ten 0 46 in
-      let text : decimal (n / billion) ++ src ≡ billionths n = ap (λ (l : List ℕ). decimal (n / billion) ++ l) (pointed is-ten) ∙ sym (at_point n) in (
-        omega (arith, is-r, is-k, length-append (decimal (n / billion)) src, ap length text),
-        ap (λ (l : List ℕ). put_mid r (length line - r) line l) is-new
-            ∙ ap (λ (l : List ℕ). put_mid r (length l - r) l (src ++ drop k (take (length l - r) (drop r l)))) is-line
-            ∙ grown (decimal (n / billion)) d src r k (sym is-r)
-            ∙ ap (λ (l : List ℕ). l ++ drop (r + k) d) text,
-      )
+  pub with_places : {ten : List ℕ} → ten ≡ digits 10 (n % billion) → decimal (n / billion) ++ set ten 0 46 ≡ billionths n
+  with_places is-ten = ap (λ (l : List ℕ). decimal (n / billion) ++ l) (pointed is-ten) ∙ sym (at_point n)
 
 -- ---- how long it is
 -- the digits before the point, the point and nine places

@@ -1,27 +1,29 @@
 -- A number as it is printed. Assumes nothing.
+use Rattle.std.specs.List.{position, position_or_len}
+use Rattle.std.specs.Option.{unwrap_or}
+use Rattle.std.proofs.lemmas.List.Sums.{prefix_len-le-length}
 use mathlib.Core.Path.{◌≡◌, refl, sym, ap, ◌∙◌}
-use mathlib.Core.Bool.{Bool, true, false}
+use mathlib.Core.Bool.{Bool, true, not}
 use mathlib.Core.List.{List, [], ◌∷◌, ◌++◌, append_assoc}
-use Prim.Native.Nat.{ℕ, suc, ◌+◌, ◌-◌, ◌/◌, ◌%◌, ◌<◌, ◌≤◌}
-use native.Mathlib.Numerals.{add-one}
+use Prim.Native.Nat.{ℕ, zero, suc, ◌+◌, ◌-◌, ◌/◌, ◌%◌, ◌<◌, ◌≤◌}
 use native.Mathlib.Omega.{arith}
-use lib.Dec.{eqb}
+use lib.Dec.{eqb, ltb}
 use lib.IntN.{ℤ, pos, negsuc, nat_abs}
-use lib.ListN.{length, take, drop, get_or, set, length-drop, length-map}
-use lib.Seq.{drop-cons, take_all}
+use lib.ListN.{length, take, drop, set, length-append, length-drop, length-map}
+use lib.Seq.{length-take-le, take_all}
 use lib.Signed.{lt_z}
-use borrow.Author.Tests.{ltb-true, ne_eqb}
+use borrow.Author.Tests.{ltb-false, le-ltb, ne_eqb}
 use borrow.Rule.Slice.PartMut.{put_mid}
 use mir.Syntax.{Width}
-use mir.Val.{SFits, to_z, of_z}
+use mir.Val.{to_z}
 use Rattle.whole.specs.Every.{every}
 use Rattle.whole.specs.Places.{in_places}
 use Rattle.whole.specs.Digits.{byte_of, digits}
 use Rattle.whole.proofs.Bools.{both, by_test}
 use Rattle.whole.proofs.Places.{in_places_long}
-use Rattle.whole.proofs.Words.{Holds, of, zero_is, tested}
-use Rattle.kinds.proofs.Writing.{byte_after, grown}
-use Rattle.decimal.specs.Decimal.{minus, unpadded, decimal, minus_first, printed_number, billion, billionths}
+use Rattle.whole.proofs.Words.{Holds}
+use Rattle.kinds.proofs.Writing.{byte_after, grown_by}
+use Rattle.decimal.specs.Decimal.{sign, unpadded, decimal, minus_first, printed_number, billion, billionths}
 
 -- ---- leading zeros
 -- before a digit, a zero goes
@@ -43,19 +45,35 @@ last_stays [] h = refl
 last_stays (b ∷ []) h = refl
 last_stays (b ∷ next ∷ rest) h = absurd (omega arith)
 
--- from a place on
-module _ (d : List ℕ) (i : ℕ) where
-  pub passed_over : i + 1 < length d → get_or d i 0 ≡ 48 → unpadded (drop i d) ≡ unpadded (drop (i + 1) d)
-  passed_over h e =
-      ap unpadded (drop-cons d i 0 (omega (arith, h)) ∙ ap (λ (b : ℕ). b ∷ drop (suc i) d) e)
-      ∙ zero_goes (drop (suc i) d) (omega (arith, h, length-drop (suc i) d))
-      ∙ ap (λ (k : ℕ). unpadded (drop k d)) (sym (add-one i))
+-- a digit that is no zero
+abbrev pub other : ℕ → Bool
+other b = not (eqb b 48)
 
-  pub found : i + 1 < length d → (get_or d i 0 ≡ 48 → ⊥) → unpadded (drop i d) ≡ drop i d
-  found h n = rw (drop-cons d i 0 (omega (arith, h))) (first_stays (get_or d i 0) (drop (suc i) d) n)
+-- what stands from the first such digit on, or else from the last digit on
+from_first : (w : ℕ) (ds : List ℕ) → length ds ≡ suc w → drop (position_or_len other (take w ds)) ds ≡ unpadded ds
+unfolding unpadded
+from_first w [] long = absurd (omega (arith, long))
+from_first zero (b ∷ []) long = refl
+from_first zero (b ∷ next ∷ rest) long = absurd (omega (arith, long))
+from_first (suc w) (b ∷ []) long = absurd (omega (arith, long))
+from_first (suc w) (b ∷ next ∷ rest) long =
+    let k : ℕ = position_or_len other (take w (next ∷ rest)) in
+    let e : 1 + k ≡ suc k = omega arith in
+    by_test (eqb b 48)
+    (λ t. simp (t, e) (from_first w (next ∷ rest) (omega (arith, long))))
+    (λ t. simp t refl)
 
-  pub last_found : length d ≤ i + 1 → unpadded (drop i d) ≡ drop i d
-  last_found h = last_stays (drop i d) (omega (arith, h, length-drop i d))
+or_all : (xs : List ℕ) → unwrap_or (position other xs) (length xs) ≡ position_or_len other xs
+or_all xs =
+    by_test (ltb (position_or_len other xs) (length xs))
+    (λ t. simp t refl)
+    (λ t. simp t (omega (arith, ltb-false (position_or_len other xs) (length xs) t, prefix_len-le-length (λ b. not (other b)) xs)))
+
+pub first_found : (w : ℕ) (ds : List ℕ) {r : ℕ} → length ds ≡ suc w → r ≡ unwrap_or (position other (take w ds)) w → drop r ds ≡ unpadded ds
+first_found w ds long is-r =
+    let n : length (take w ds) ≡ w = length-take-le w ds (omega (arith, long)) in
+    let e = or_all (take w ds) in
+    rw (is-r, ap (λ (k : ℕ). unwrap_or (position other (take w ds)) k) (sym n) ∙ e) (from_first w ds long)
 
 -- ---- the digits of a number
 pub unpadded_short : (l : List ℕ) → length (unpadded l) ≤ length l
@@ -100,37 +118,18 @@ unfolding printed_number
 printed_short (pos n) = omega (arith, decimal_short n)
 printed_short (negsuc n) = omega (arith, decimal_short (suc n))
 
--- z as the code holds it, and m its size
-pub size_is : {w : Width} {a m : ℕ} {z : ℤ} → Holds w a z → m ≡ nat_abs (to_z w a) → m ≡ nat_abs z
-size_is h is_m = is_m ∙ ap nat_abs h.reads
+-- d is the line as it came, a what was put at its start, in r bytes, and b what was then put into what follows, in k
+module _ (d a b new : List ℕ) {line : List ℕ} {r k : ℕ} (is-r : r ≡ length a) (is-line : line ≡ a ++ drop r d) (is-k : k ≡ length b) (is-new : new ≡ b ++ drop k (take (length line - r) (drop r line))) where
+  pub put_after : (text : List ℕ) → a ++ b ≡ text → (r + k ≡ length text) × (put_mid r (length line - r) line new ≡ text ++ drop (r + k) d)
+  put_after text e = (omega (arith, is-r, is-k, length-append a b, ap length e), grown_by a d is-line is-r b new k is-new ∙ ap (λ (l : List ℕ). l ++ drop (r + k) d) e)
 
--- the sign is written to the line d, in which k bytes more have room
-module _ (d : List ℕ) (k : ℕ) (room : k < length d) where
-  signed_line : set d 0 minus ≡ (minus ∷ []) ++ drop 1 d
-  signed_line = byte_after [] d minus 0 refl (omega (arith, room))
+-- whatever the text of a size is: z by its sign and its size, as the code holds it
+by_sign : (text : ℕ → List ℕ) (z : ℤ) → sign (lt_z z (pos 0)) ++ text (nat_abs z) ≡ minus_first text z
+by_sign text (pos n) = simp (le-ltb n 0 (omega arith)) refl
+by_sign text (negsuc n) = refl
 
--- whatever the text of a size is
-module _ (text : ℕ → List ℕ) where
-  below_zero : (z : ℤ) → lt_z z (pos 0) ≡ true → minus ∷ text (nat_abs z) ≡ minus_first text z
-  below_zero (pos n) h = absurd (omega (arith, ltb-true n 0 h))
-  below_zero (negsuc n) h = refl
-
-  from_zero : (z : ℤ) → lt_z z (pos 0) ≡ false → text (nat_abs z) ≡ minus_first text z
-  from_zero (pos n) h = refl
-  from_zero (negsuc n) h = absurd (let z : ◌≡◌ {A = ℕ} 0 1 = cc in omega arith)
-
-  -- d is the line as it came, r how many bytes the text of the size m has, and new what was lent for them, afterwards
-  module _ {w : Width} {z : ℤ} (fits : SFits w z) {m : ℕ} (is_m : m ≡ nat_abs z) (d new : List ℕ) {r : ℕ} (is-r : r ≡ length (text m)) where
-    pub no_sign : lt_z (to_z w (of_z w z)) (to_z w 0) ≡ false → new ≡ text m ++ drop r d → (r ≡ length (minus_first text z)) × (new ≡ minus_first text z ++ drop r d)
-    no_sign h is-new =
-        let e : text m ≡ minus_first text z = ap text is_m ∙ from_zero z (tested lt_z (of fits) zero_is h) in
-        (is-r ∙ ap length e, is-new ∙ ap (λ (l : List ℕ). l ++ drop r d) e)
-
-    module _ (k : ℕ) (room : k < length d) (h : lt_z (to_z w (of_z w z)) (to_z w 0) ≡ true) (is-new : new ≡ text m ++ drop r (take (length (set d 0 minus) - 1) (drop 1 (set d 0 minus)))) where
-      pub with_sign_lem : (1 + r ≡ length (minus_first text z)) × (put_mid 1 (length (set d 0 minus) - 1) (set d 0 minus) new ≡ minus_first text z ++ drop (1 + r) d)
-      with_sign_lem =
-          let e : minus ∷ text m ≡ minus_first text z = ap (λ (n : ℕ). minus ∷ text n) is_m ∙ below_zero z (tested lt_z (of fits) zero_is h) in
-          (omega (arith, is-r, ap length e), rw (is-new, signed_line d k room) (grown (minus ∷ []) d (text m) 1 r refl ∙ ap (λ (l : List ℕ). l ++ drop (1 + r) d) e))
+pub signed_text : (text : ℕ → List ℕ) {w : Width} {a m : ℕ} {z : ℤ} → Holds w a z → m ≡ nat_abs (to_z w a) → sign (lt_z (to_z w a) (pos 0)) ++ text m ≡ minus_first text z
+signed_text text h is_m = rw is_m (by_sign text _) ∙ ap (minus_first text) h.reads
 
 -- ---- and the byte that follows it
 -- y is z as the code holds it

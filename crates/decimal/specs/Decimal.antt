@@ -1,5 +1,5 @@
 -- Document 01, 'The line program': a number as it is printed; and document 02, wish 1: decimal degrees.
-use Rattle.std.specs.Prelude.{cond, List, [], ◌∷◌, ◌++◌, ℕ, suc, ◌/◌, ◌%◌, eqb, ℤ, pos, negsuc}
+use Rattle.std.specs.Prelude.{Bool, cond, List, [], ◌∷◌, ◌++◌, ℕ, suc, ◌/◌, ◌%◌, eqb, ℤ, pos, negsuc}
 use Rattle.whole.specs.Digits.{digits}
 use Rattle.kinds.specs.Bytes.{ascii}
 
@@ -18,6 +18,10 @@ unpadded (first ∷ next ∷ rest) = cond (eqb first zero_digit) (unpadded (next
 -- a number below 10,000,000,000, as the size of every 4-byte number is
 unfoldable pub decimal : ℕ → List ℕ
 decimal n = unpadded (digits 10 n)
+
+-- a minus sign, below zero
+abbrev pub sign : Bool → List ℕ
+sign below = cond below (minus ∷ []) []
 
 -- 'A minus sign stands first and the digits follow it': a number by the text of its size
 abbrev pub minus_first : (ℕ → List ℕ) → ℤ → List ℕ

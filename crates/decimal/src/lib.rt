@@ -3,7 +3,7 @@
 
 ghost use Rattle.std.specs.Prelude.{◌≡◌, [], ◌∷◌, ◌++◌, ◌+◌, ◌%◌, ◌<◌, ◌≤◌, nat_abs, length, drop};
 ghost use Rattle.whole.specs.Digits.{digits};
-ghost use Rattle.decimal.specs.Decimal.{unpadded, decimal, printed_number, billionths, nine_places};
+ghost use Rattle.decimal.specs.Decimal.{sign, unpadded, decimal, printed_number, billionths, nine_places};
 
 // A number and the byte that follows it, at the start of what is lent.
 pub fn number_and(n: i32, next: u8, line: &mut [u8]) -> usize
@@ -22,12 +22,8 @@ pub fn nine_places(n: i64, line: &mut [u8]) -> usize
     ensures value { result ≡ length (nine_places n) }
     ensures line_after { line.new ≡ nine_places n ++ drop result line.old }
 {
-    let size = whole::size(n);
-    if n < 0 {
-        line[0] = b'-';
-        return 1 + billionths(size, &mut line[1..]);
-    }
-    billionths(size, line)
+    let sign = minus(n < 0, line);
+    sign + billionths(n.unsigned_abs(), &mut line[sign..])
 }
 
 const BILLION: u64 = 1_000_000_000;
@@ -66,19 +62,27 @@ fn up_to_three(n: u32, line: &mut [u8]) -> usize
     1
 }
 
-// Writes a number to the start of a line, which has room for 11 bytes, and says how many: a minus sign stands first, and the
-// writer of the digits is lent what follows it.
+// Writes a number to the start of a line, which has room for 11 bytes, and says how many.
 fn signed(n: i32, line: &mut [u8]) -> usize
     requires { 11 ≤ length line.old }
     ensures value { result ≡ length (printed_number n) }
     ensures line_after { line.new ≡ printed_number n ++ drop result line.old }
 {
-    let size = whole::size(n as i64) as u32;
-    if n < 0 {
+    let first = minus(n < 0, line);
+    first + digits(n.unsigned_abs(), &mut line[first..])
+}
+
+// A minus sign, where one is to stand, at the start of what is lent.
+fn minus(below: bool, line: &mut [u8]) -> usize
+    requires { 1 ≤ length line.old }
+    ensures value { result ≡ length (sign below) }
+    ensures line_after { line.new ≡ sign below ++ drop result line.old }
+{
+    if below {
         line[0] = b'-';
-        return 1 + digits(size, &mut line[1..]);
+        return 1;
     }
-    digits(size, line)
+    0
 }
 
 // The digits of a number, without leading zeros, at the start of what is lent.
@@ -118,17 +122,9 @@ fn digit(n: u32) -> u8
 }
 
 // Where the first digit stands that is written: the last one at the latest.
-#[tactic(auto, using(crate::proofs::Numbers::passed_over, crate::proofs::Numbers::found, crate::proofs::Numbers::last_found))]
-fn first_digit(digits: &[u8]) -> usize
+fn first_digit(digits: &[u8; 10]) -> usize
     ensures upper_bound { result ≤ length digits.now }
     ensures digits_value { drop result digits.now ≡ unpadded digits.now }
 {
-    let mut first = 0;
-    while first + 1 < digits.len() {
-        if digits[first] != b'0' {
-            return first;
-        }
-        first += 1;
-    }
-    first
+    digits[..9].iter().position(|d| *d != b'0').unwrap_or(9)
 }

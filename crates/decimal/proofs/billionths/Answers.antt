@@ -1,6 +1,7 @@
 use Rattle.std.proofs.Common.{◌/◌, arith, length-take, length-drop}
 use Rattle.decimal.specs.Decimal.{billion}
-use Rattle.decimal.proofs.Nine.{three_short, places_long, all_written}
+use Rattle.decimal.proofs.Numbers.{put_after}
+use Rattle.decimal.proofs.Nine.{three_short, places_long, with_places}
 use Rattle.decimal.proofs.billionths.Goals as goal
 
 pub copy-requires : goal.copy-requires
@@ -10,6 +11,6 @@ copy-requires c =
 
 pub returns : goal.returns
 returns c =
-    let p = c.up_to_three-point in
-    let w = all_written c.args.n c.args.line.now _ p.ensures.value p.ensures.line_after c.in_ten-places.ensures c.copy.ensures.value c.copy.ensures.out_after in
+    let p = c.up_to_three-point.ensures in
+    let w = put_after c.args.line.now _ _ _ p.value p.line_after c.copy.ensures.value c.copy.ensures.out_after _ (with_places c.args.n c.in_ten-places.ensures) in
     record { value = w.0; line_after = w.1 }
