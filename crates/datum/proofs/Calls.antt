@@ -1,6 +1,6 @@
 -- What a call says of a code, by the page that the code has. Assumes nothing.
 use mathlib.Core.Path.{◌≡◌, refl, sym, ap, ◌∙◌}
-use mathlib.Core.Bool.{Bool, true, false, not, beq}
+use mathlib.Core.Bool.{Bool, true, false}
 use lib.IntN.{ℤ}
 use mir.Syntax.{w64}
 use mir.Val.{SFits, to_z, of_z}
@@ -8,10 +8,9 @@ use Rattle.whole.proofs.Words.{of}
 use Rattle.kinds.specs.Answer.{Answer, gives, refused, provided}
 use Rattle.kinds.proofs.Answers.{passed, failed, same_value}
 use Rattle.kinds.specs.Kinds.{is_position}
-use Rattle.tables.specs.Page.{Page, Equation, Family, shift, geoid, is_shift, is_geoid, of_each}
+use Rattle.tables.specs.Page.{Page, Equation, Family, shift, geoid, is_shift, of_each}
 use Rattle.tables.specs.Rule.{in_area, worked}
 use Rattle.datum.specs.Point.{is_code, page_of, point_of, asked}
-use Rattle.datum.specs.Inside.{is_of}
 
 abbrev code_page : ℤ → Answer Page
 code_page code = provided (is_code code) 4 (gives (page_of code))
@@ -60,16 +59,3 @@ worked_shift f (geoid n) = refl
 pub positioned : (call : ℤ → ℤ → Answer (ℤ × ℤ)) {latitude longitude : ℤ} → SFits w64 latitude → SFits w64 longitude → {a : Answer (ℤ × ℤ)}
     → a ≡ call (to_z w64 (of_z w64 latitude)) (to_z w64 (of_z w64 longitude)) → call latitude longitude ≡ a
 positioned call b l e = sym (e ∙ (λ i. call ((of b).reads i) ((of l).reads i)))
-
--- the test of the family, by the flag of the frame
-pub by_flag : (height flag : Bool) (e : Family Equation) → flag ≡ is_geoid e → beq flag height ≡ is_of height e
-by_flag true flag e h = go flag ∙ h
-  where
-    go : (b : Bool) → beq b true ≡ b
-    go true = refl
-    go false = refl
-by_flag false flag e h = ap (λ (b : Bool). beq b false) h ∙ go (is_shift e)
-  where
-    go : (b : Bool) → beq (not b) false ≡ b
-    go true = refl
-    go false = refl

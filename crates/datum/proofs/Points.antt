@@ -1,6 +1,6 @@
--- A point's answer by its page: what the tests say of it, what three numbers say, and where a shift leads. Assumes nothing.
-use mathlib.Core.Path.{◌≡◌, refl, sym, ap, ◌∙◌, subst}
-use mathlib.Core.Bool.{Bool, true, false, cond, ◌&&◌, false≢true}
+-- A point's answer by its page: what the tests say of it, and where a shift leads. Assumes nothing.
+use mathlib.Core.Path.{◌≡◌, sym, ap, ◌∙◌, subst}
+use mathlib.Core.Bool.{Bool, true, false, ◌&&◌}
 use Prim.Native.Nat.{ℕ}
 use lib.Dec.{T}
 use lib.IntN.{ℤ}
@@ -10,10 +10,9 @@ use Rattle.kinds.specs.Kinds.{is_position, is_four_bytes, converted}
 use Rattle.kinds.proofs.Answers as Answers
 use Rattle.kinds.proofs.Answers.{same_value, all_held, first_failed, fails}
 use Rattle.kinds.proofs.Tested.{in_four_bytes}
-use Rattle.tables.specs.Page.{Page, Equation, Family, shift, geoid, is_shift, is_geoid, each}
+use Rattle.tables.specs.Page.{Page, Equation, Family, shift, geoid, is_shift, each}
 use Rattle.tables.specs.Rule.{in_box, longitude_on, along, worked}
-use Rattle.tables.specs.Inside.{values_say, Say, equation_at, evaluated_at, Fits, AllFit}
-use Rattle.tables.specs.declared.Values.{Values}
+use Rattle.tables.specs.Inside.{equation_at, evaluated_at, Fits, AllFit}
 use Rattle.tables.proofs.Limits.{page_keeps, all_fit}
 use Rattle.datum.specs.Point.{page_of, point_tests, point_of, tests, shift_of, converted_by, converted_of}
 use Rattle.datum.specs.Inside.{located, ranged, shifted_by}
@@ -49,26 +48,6 @@ module _ (page : Page) (latitude longitude : ℤ) where
 
   pub refuses : (n : ℕ) → located page latitude longitude ≡ refused n → point_of page latitude longitude ≡ refused n
   refuses n e = fails (point_tests page latitude longitude) (gives (worked page latitude longitude)) n (first_failed (point_tests page latitude longitude) (latitude, longitude) n e)
-
--- ---- what three numbers say
-pub said : (v : Values) (values : Family ℤ) → Say v values → values_say v ≡ values
-said v (shift a b c) s = λ i. cond (s.0 i) (geoid (s.1 i)) (shift (s.1 i) (s.2 i) (s.3 i))
-said v (geoid n) s = λ i. cond (s.0 i) (geoid (s.1 i)) (shift (s.1 i) (s.2 i) (s.3 i))
-
--- of a call that takes shifts alone, or geoid heights alone
-pub as_shift : (v : Values) → is_shift (values_say v) ≡ true → shift v.first v.second v.third ≡ values_say v
-as_shift v = go v.geoid
-  where
-    go : (b : Bool) → is_shift (cond b (geoid v.first) (shift v.first v.second v.third)) ≡ true → shift v.first v.second v.third ≡ cond b (geoid v.first) (shift v.first v.second v.third)
-    go true h = absurd (false≢true h)
-    go false h = refl
-
-pub as_geoid : (v : Values) → is_geoid (values_say v) ≡ true → geoid v.first ≡ values_say v
-as_geoid v = go v.geoid
-  where
-    go : (b : Bool) → is_geoid (cond b (geoid v.first) (shift v.first v.second v.third)) ≡ true → geoid v.first ≡ cond b (geoid v.first) (shift v.first v.second v.third)
-    go true h = refl
-    go false h = absurd (false≢true h)
 
 -- ---- each of a point's values is in 4 bytes
 of_family : (equations : Family Equation) (u v : ℤ) → AllFit equations u v → each is_four_bytes (evaluated_at equations u v) ≡ true

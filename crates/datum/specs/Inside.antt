@@ -1,5 +1,5 @@
 -- What is private to the crate: what its functions tell each other. No promise to a user speaks of it.
-use Rattle.std.specs.Prelude.{Bool, true, false, ℤ, Result}
+use Rattle.std.specs.Prelude.{Bool, ℤ, Result}
 use Rattle.kinds.specs.Answer.{Answer, gives, provided, in_order}
 use Rattle.kinds.specs.Cases.{answered}
 use Rattle.kinds.specs.declared.Refusal.{Refusal}
@@ -8,6 +8,8 @@ use Rattle.tables.specs.Page.{Page, Equation, Family, is_shift, is_geoid}
 use Rattle.tables.specs.Inside.{datum_page, values_say}
 use Rattle.datum.specs.Point.{point_tests}
 use Rattle.tables.specs.declared.Datum.{Datum}
+use Rattle.tables.specs.declared.Family as code
+use Rattle.tables.specs.declared.Family.TheVariants as Gives
 use Rattle.tables.specs.declared.Values.{Values}
 
 -- the page of a code's datum
@@ -30,7 +32,7 @@ shifted_by d_lat d_lon latitude longitude = provided (is_position latitude longi
 abbrev pub values_answer : Result Values Refusal → Answer (Family ℤ)
 values_answer = answered values_say
 
--- whether a datum has what is asked for: a geoid height, or a shift
-abbrev pub is_of : Bool → Family Equation → Bool
-is_of true = is_geoid
-is_of false = is_shift
+-- whether a datum is of the family that is asked
+abbrev pub is_of : code.Family → Family Equation → Bool
+is_of Gives.Shift = is_shift
+is_of Gives.Geoid = is_geoid

@@ -11,7 +11,7 @@ ghost use Rattle.datum.specs.Cases.{shift_says, shift_answer, geoid_answer, poin
 ghost use Rattle.datum.specs.Inside.{datum_answer, located, shifted_by, values_answer, is_of};
 
 use kinds::{AngleShift, Height, LocalPosition, Refusal, Wgs84Position};
-use tables::{Datum, Values};
+use tables::{Datum, Family, Values};
 
 // The shifts of a point from its local datum to WGS 84.
 #[derive(Clone, Copy)]
@@ -23,13 +23,13 @@ pub struct Shifts {
 
 impl Shifts {
     // Three numbers, each as the kind that it is.
-    fn of(values: Values) -> Shifts
-        ensures { shift_says result ≡ shift values.first values.second values.third }
+    fn of(latitude: i32, longitude: i32, height: i32) -> Shifts
+        ensures { shift_says result ≡ shift latitude longitude height }
     {
         Shifts {
-            latitude: AngleShift::from(values.first),
-            longitude: AngleShift::from(values.second),
-            height: Height::from(values.third),
+            latitude: AngleShift::from(latitude),
+            longitude: AngleShift::from(longitude),
+            height: Height::from(height),
         }
     }
 }
@@ -47,8 +47,15 @@ pub enum Given {
 pub fn shift(code: i64, latitude: i64, longitude: i64) -> Result<Shifts, Refusal>
     ensures { shift_answer result ≡ shift_of code latitude longitude }
 {
-    let values = asked(false, code, latitude, longitude)?;
-    Ok(Shifts::of(values))
+    let values = asked(Family::Shift, code, latitude, longitude)?;
+    match values {
+        Values::Shift {
+            latitude,
+            longitude,
+            height,
+        } => Ok(Shifts::of(latitude, longitude, height)),
+        Values::Geoid(_) => unreachable!(),
+    }
 }
 
 // The geoid height of a point of codes 5 and 6, likewise; refused with 5 of a shift datum.
@@ -56,8 +63,11 @@ pub fn shift(code: i64, latitude: i64, longitude: i64) -> Result<Shifts, Refusal
 pub fn geoid(code: i64, latitude: i64, longitude: i64) -> Result<Height, Refusal>
     ensures { geoid_answer result ≡ geoid_of code latitude longitude }
 {
-    let values = asked(true, code, latitude, longitude)?;
-    Ok(Height::from(values.first))
+    let values = asked(Family::Geoid, code, latitude, longitude)?;
+    match values {
+        Values::Geoid(height) => Ok(Height::from(height)),
+        Values::Shift { .. } => unreachable!(),
+    }
 }
 
 // The WGS 84 position of a point of codes 1 to 4, by its shift, and refused as that is.
@@ -75,11 +85,13 @@ pub fn answer(code: i64, latitude: i64, longitude: i64) -> Result<Given, Refusal
 {
     let datum = coded(code)?;
     let position = located(datum, latitude, longitude)?;
-    let values = datum.values(position);
-    if values.geoid {
-        Ok(Given::Geoid(Height::from(values.first)))
-    } else {
-        Ok(Given::Shift(Shifts::of(values)))
+    match datum.values(position) {
+        Values::Shift {
+            latitude,
+            longitude,
+            height,
+        } => Ok(Given::Shift(Shifts::of(latitude, longitude, height))),
+        Values::Geoid(height) => Ok(Given::Geoid(Height::from(height))),
     }
 }
 
@@ -91,13 +103,13 @@ fn shifted(latitude: i64, longitude: i64, shifts: Shifts) -> Result<Wgs84Positio
     Ok(position.shifted(shifts.latitude, shifts.longitude))
 }
 
-// What the datum of a code gives for a point, where it has what is asked for: a geoid height, or a shift.
-fn asked(geoid: bool, code: i64, latitude: i64, longitude: i64) -> Result<Values, Refusal>
-    ensures { values_answer result ≡ asked (is_of geoid) code latitude longitude }
+// What the datum of a code gives for a point, where it is of the family that is asked.
+fn asked(family: Family, code: i64, latitude: i64, longitude: i64) -> Result<Values, Refusal>
+    ensures { values_answer result ≡ asked (is_of family) code latitude longitude }
 {
     let datum = coded(code)?;
     let frame = datum.frame();
-    if frame.geoid != geoid {
+    if frame.family != family {
         return Err(Refusal::Family);
     }
     let position = located(datum, latitude, longitude)?;

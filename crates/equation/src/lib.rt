@@ -41,7 +41,7 @@ pub fn size_powers(u: Parts) -> [i64; 10]
     requires { nat_abs u.0 ≤ 255000000 }
     ensures { result ≡ size_powers u.0 }
 {
-    let size = whole::size(u.0);
+    let size = u.0.unsigned_abs();
     let mut out = [Parts::SCALE; 10];
     out[1] = size as i64;
     let mut power = size;

@@ -18,7 +18,6 @@ use std::env::{Env, FillError};
 use std::io::{Read, Write};
 use std::{fmt, io};
 use stream::Reading;
-use whole::least;
 
 // What the program is asked for: answers in a form, or what it does not know.
 #[derive(Clone, Copy)]
@@ -198,7 +197,7 @@ fn read_all<R: Read, W: Write>(
         reading = turn.reading;
         handed += turn.handed;
         let count = turn.count;
-        if least(count, reading.left()) == 0 {
+        if count.min(reading.left()) == 0 {
             let last = end(reading, writer, output)?;
             return Ok(Turn {
                 reading,
@@ -226,7 +225,7 @@ fn read<R: Read, W: Write>(
     ensures written { IfOk result (λ turn. Appends (W.contents writer.old) (W.contents writer.new)
         (answers reading.form (held reading.begun) (take turn.count input.new))) }
 {
-    let most = least(reading.left(), input.len());
+    let most = reading.left().min(input.len());
     let got = reader.read(&mut input[..most]);
     turned(got, reading, writer, &input[..most], output)
 }

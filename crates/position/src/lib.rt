@@ -61,7 +61,7 @@ pub fn write_latitude(ms: i64, out: &mut [u8]) -> Result<usize, Refusal>
     if ms < 0 {
         letter = b'S';
     }
-    let line = spelled(whole::size(ms), letter);
+    let line = spelled(ms.unsigned_abs(), letter);
     put(&line[1..], out)
 }
 
@@ -72,7 +72,7 @@ pub fn write_longitude(ms: i64, out: &mut [u8]) -> Result<usize, Refusal>
     ensures out_after { out.new ≡ lent (write longitude ms (length out.old)) out.old }
 {
     LocalLongitude::new(ms)?;
-    let line = spelled(whole::size(ms), b'E');
+    let line = spelled(ms.unsigned_abs(), b'E');
     put(&line, out)
 }
 

@@ -12,7 +12,6 @@ ghost use Rattle.stream.specs.Inside.{Clear, First, FirstFeed, end_for, low_firs
 use kinds::Refusal;
 use line::{Form, LINE, WAYPOINT};
 use numbers::one;
-use whole::least;
 
 // The first bytes of a line whose line feed has not come. Of a longer line 27 are kept, which are refused as it is.
 #[derive(Clone, Copy)]
@@ -96,7 +95,7 @@ pub fn feed(reading: Reading, bytes: &[u8], out: &mut [u8]) -> Fed
 {
     let form = reading.form;
     let left = reading.left;
-    let most = least(left, bytes.len());
+    let most = left.min(bytes.len());
     let mut line = reading.begun;
     let mut lines = out.len() / WAYPOINT;
     let mut from = 0;
@@ -135,7 +134,7 @@ pub fn finish(reading: Reading, out: &mut [u8]) -> Fed
     let form = reading.form;
     let begun = reading.begun;
     // one byte, where a line is begun
-    let left = least(begun.count, 1);
+    let left = begun.count.min(1);
     let fed = feed(Reading { form, begun, left }, b"\n", out);
     let last = fed.reading;
     let begun = last.begun;
@@ -280,10 +279,10 @@ fn extended(begun: Begun, more: &[u8]) -> Begun
 {
     let held = begun.bytes;
     // no state that this crate makes has a higher count
-    let first = least(begun.count, KEPT);
+    let first = begun.count.min(KEPT);
     let mut bytes = [0; KEPT];
     kinds::copy(&held[..first], &mut bytes);
-    let second = least(more.len(), KEPT - first);
+    let second = more.len().min(KEPT - first);
     kinds::copy(&more[..second], &mut bytes[first..]);
     Begun {
         bytes,

@@ -21,7 +21,7 @@ fn quotient<W: Write>(answers: &mut W, n: i64, d: u64) -> io::Result<()> {
 
 // The powers of the size of u from the second to the ninth: none where it is larger than 2.55.
 fn powers<W: Write>(answers: &mut W, u: i64) -> io::Result<()> {
-    if whole::size(u) <= 255_000_000 {
+    if u.unsigned_abs() <= 255_000_000 {
         let p = equation::size_powers(whole::Parts(u));
         for power in &p[2..10] {
             test_show::number(answers, *power)?;
@@ -58,7 +58,7 @@ fn answer<R: Read, W: Write>(questions: &mut R, answers: &mut W, letter: u8) -> 
         b'q' => quotient(
             answers,
             test_ask::number(questions)?,
-            whole::size(test_ask::number(questions)?),
+            test_ask::number(questions)?.unsigned_abs(),
         ),
         b'r' => test_show::number(
             answers,

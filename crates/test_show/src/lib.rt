@@ -14,7 +14,7 @@ fn digits<W: Write>(answers: &mut W, n: i64) -> io::Result<()> {
     if n < 0 {
         answers.write_all(b"-")?;
     }
-    write!(answers, "{}", whole::size(n))
+    write!(answers, "{}", n.unsigned_abs())
 }
 
 pub fn four_bytes<W: Write>(answers: &mut W, n: i32) -> io::Result<()> {

@@ -1,4 +1,4 @@
-use Rattle.std.proofs.Common.{◌≡◌, refl, sym, ap, ◌∙◌, Bool, cond, rules}
+use Rattle.std.proofs.Common.{refl, sym, ap, ◌∙◌, rules}
 use lib.IntN.{ℤ}
 use mir.Syntax.{w32}
 use mir.Val.{SFits}
@@ -7,40 +7,33 @@ use Rattle.kinds.specs.Answer.{gives}
 use Rattle.kinds.proofs.Answers.{handed_on}
 use Rattle.tables.specs.Page.{shift, geoid, is_either}
 use Rattle.tables.specs.Inside.{datum_page, values_say}
-use Rattle.tables.specs.declared.Values.{Values}
 use Rattle.datum.specs.Cases.{given_says}
 use Rattle.datum.specs.Inside.{located}
-use Rattle.datum.proofs.Points.{inside, works, refuses, said}
+use Rattle.datum.proofs.Points.{inside, works, refuses}
 use Rattle.datum.proofs.Calls.{coded_page, right, positioned}
 use Rattle.datum.proofs.answer.Goals as goal
 
--- what three numbers are, by their flag
-by_flag : (v : Values) {b : Bool} → v.geoid ≡ b → cond b (geoid v.first) (shift v.first v.second v.third) ≡ values_say v
-by_flag v e = λ i. cond (sym e i) (geoid v.first) (shift v.first v.second v.third)
-
-pub values-values-requires : goal.values-values-requires
-values-values-requires c =
+pub values-requires : goal.values-requires
+values-requires c =
     let page = datum_page c.in_ok-datum.datum in
     inside page c.args.latitude c.args.longitude (positioned (located page) c.ranges.latitude c.ranges.longitude c.in_ok-position.ensures)
 
-pub returns-then-values : goal.returns-then-values
-returns-then-values c =
+pub returns-in-Shift : goal.returns-in-Shift
+returns-in-Shift c =
     let page = datum_page c.in_ok-datum.datum in
-    let v = c.values-values.result in
-    let first : SFits w32 v.first = search rules in
-    ap (λ (x : ℤ). gives (geoid x)) (c.from.ensures ∙ (of first).reads)
-    ∙ ap gives (by_flag v c.if-values.true)
-    ∙ ap gives (said v _ c.values-values.ensures)
+    let a : SFits w32 c.in-Shift.latitude = search rules in
+    let b : SFits w32 c.in-Shift.longitude = search rules in
+    let h : SFits w32 c.in-Shift.height = search rules in
+    ap gives (c.of.ensures ∙ (λ i. shift ((of a).reads i) ((of b).reads i) ((of h).reads i)) ∙ sym (ap values_say c.in-Shift.is) ∙ c.values.ensures)
     ∙ sym (works page c.args.latitude c.args.longitude (positioned (located page) c.ranges.latitude c.ranges.longitude c.in_ok-position.ensures))
     ∙ right is_either c.args.code c.args.latitude c.args.longitude page refl (coded_page c.ranges.code c.in_ok-datum.ensures)
 
-pub returns-else-values : goal.returns-else-values
-returns-else-values c =
+pub returns-in-Geoid : goal.returns-in-Geoid
+returns-in-Geoid c =
     let page = datum_page c.in_ok-datum.datum in
-    let v = c.values-values.result in
-    ap gives c.of.ensures
-    ∙ ap gives (by_flag v c.if-values.false)
-    ∙ ap gives (said v _ c.values-values.ensures)
+    let h : SFits w32 c.in-Geoid.height = search rules in
+    ap (λ (x : ℤ). gives (geoid x)) (c.from.ensures ∙ (of h).reads)
+    ∙ ap gives (sym (ap values_say c.in-Geoid.is) ∙ c.values.ensures)
     ∙ sym (works page c.args.latitude c.args.longitude (positioned (located page) c.ranges.latitude c.ranges.longitude c.in_ok-position.ensures))
     ∙ right is_either c.args.code c.args.latitude c.args.longitude page refl (coded_page c.ranges.code c.in_ok-datum.ensures)
 

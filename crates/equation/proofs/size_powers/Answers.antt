@@ -57,44 +57,44 @@ pub loop-k-init : goal.loop-k-init
 unfolding power powers_of
 loop-k-init c =
     let f : SFits w64 c.args.u.0 = search rules in
-    let s : c.size-size.result ≤ 255000000 = omega (arith, size_is c.args.u.0 f c.size-size.ensures) in
+    let s : c.unsigned_abs-size.result ≤ 255000000 = omega (arith, size_is c.args.u.0 f c.unsigned_abs-size.ensures.value) in
     record {
       last = refl;
       long = refl;
-      done = (λ i. pos scale ∷ (as_signed c.size-size.result s {n = 1} (lit< tt) refl).reads i ∷ []);
+      done = (λ i. pos scale ∷ (as_signed c.unsigned_abs-size.result s {n = 1} (lit< tt) refl).reads i ∷ []);
     }
 
 pub overflow_mul-power : goal.overflow_mul-power
 overflow_mul-power c =
     let f : SFits w64 c.args.u.0 = search rules in
-    let s : c.size-size.result ≤ 255000000 = omega (arith, size_is c.args.u.0 f c.size-size.ensures) in
-    let p : c.loop-k.power * c.size-size.result ≤ 18446744073609551616 =
-    rw c.loop-k.invariant.last (divided c.size-size.result s (c.loop-k.k - 1) (omega (arith, c.loop-k-test.true, c.loop-k.auto.k))) in
+    let s : c.unsigned_abs-size.result ≤ 255000000 = omega (arith, size_is c.args.u.0 f c.unsigned_abs-size.ensures.value) in
+    let p : c.loop-k.power * c.unsigned_abs-size.result ≤ 18446744073609551616 =
+    rw c.loop-k.invariant.last (divided c.unsigned_abs-size.result s (c.loop-k.k - 1) (omega (arith, c.loop-k-test.true, c.loop-k.auto.k))) in
     record { fits = omega (arith, p) }
 
 pub nearest-power-requires : goal.nearest-power-requires
 nearest-power-requires c =
     let f : SFits w64 c.args.u.0 = search rules in
-    let s : c.size-size.result ≤ 255000000 = omega (arith, size_is c.args.u.0 f c.size-size.ensures) in
-    let p : c.loop-k.power * c.size-size.result ≤ 18446744073609551616 =
-    rw c.loop-k.invariant.last (divided c.size-size.result s (c.loop-k.k - 1) (omega (arith, c.loop-k-test.true, c.loop-k.auto.k))) in
+    let s : c.unsigned_abs-size.result ≤ 255000000 = omega (arith, size_is c.args.u.0 f c.unsigned_abs-size.ensures.value) in
+    let p : c.loop-k.power * c.unsigned_abs-size.result ≤ 18446744073609551616 =
+    rw c.loop-k.invariant.last (divided c.unsigned_abs-size.result s (c.loop-k.k - 1) (omega (arith, c.loop-k-test.true, c.loop-k.auto.k))) in
     (lit< tt, omega (arith, p))
 
 pub overflow_cast-out-in-loop-k : goal.overflow_cast-out-in-loop-k
 overflow_cast-out-in-loop-k c =
     let f : SFits w64 c.args.u.0 = search rules in
-    let s : c.size-size.result ≤ 255000000 = omega (arith, size_is c.args.u.0 f c.size-size.ensures) in
-    let is : c.nearest-power.result ≡ limit scale c.size-size.result c.loop-k.k =
-    c.nearest-power.ensures ∙ next c.size-size.result c.loop-k.k c.loop-k.auto.k c.loop-k.invariant.last in
-    record { sfits = omega (arith, is, small c.size-size.result s c.loop-k.k (omega (arith, c.loop-k-test.true))) }
+    let s : c.unsigned_abs-size.result ≤ 255000000 = omega (arith, size_is c.args.u.0 f c.unsigned_abs-size.ensures.value) in
+    let is : c.nearest-power.result ≡ limit scale c.unsigned_abs-size.result c.loop-k.k =
+    c.nearest-power.ensures ∙ next c.unsigned_abs-size.result c.loop-k.k c.loop-k.auto.k c.loop-k.invariant.last in
+    record { sfits = omega (arith, is, small c.unsigned_abs-size.result s c.loop-k.k (omega (arith, c.loop-k-test.true))) }
 
 pub loop-k-preserved : goal.loop-k-preserved
 loop-k-preserved c =
     let f : SFits w64 c.args.u.0 = search rules in
-    let size = c.size-size.result in
+    let size = c.unsigned_abs-size.result in
     let k = c.loop-k.k in
     let i = c.loop-k.invariant in
-    let s : size ≤ 255000000 = omega (arith, size_is c.args.u.0 f c.size-size.ensures) in
+    let s : size ≤ 255000000 = omega (arith, size_is c.args.u.0 f c.unsigned_abs-size.ensures.value) in
     let is : c.nearest-power.result ≡ limit scale size k = c.nearest-power.ensures ∙ next size k c.loop-k.auto.k i.last in
     let one-back : k ≡ k + 1 - 1 = omega arith in
     let low_k : k < 10 = omega (arith, c.loop-k-test.true) in
@@ -111,8 +111,8 @@ nine h l = omega arith
 pub scaled-requires : goal.scaled-requires
 scaled-requires c =
     let f : SFits w64 c.args.u.0 = search rules in
-    let size = c.size-size.result in
-    let s : size ≤ 255000000 = omega (arith, size_is c.args.u.0 f c.size-size.ensures) in
+    let size = c.unsigned_abs-size.result in
+    let s : size ≤ 255000000 = omega (arith, size_is c.args.u.0 f c.unsigned_abs-size.ensures.value) in
     let end : c.loop-k.k ≡ 9 = nine (c.loop-k.auto.k-end (lit≤ tt)) c.loop-k-test.false in
     let eighth : c.loop-k.power ≡ limit scale size 8 = c.loop-k.invariant.last ∙ ap (λ (n : ℕ). limit scale size (n - 1)) end in
     (omega (arith, eighth, small size s 8 (lit< tt)), omega (arith, s))
@@ -120,8 +120,8 @@ scaled-requires c =
 pub overflow_cast-out-2 : goal.overflow_cast-out-2
 overflow_cast-out-2 c =
     let f : SFits w64 c.args.u.0 = search rules in
-    let size = c.size-size.result in
-    let s : size ≤ 255000000 = omega (arith, size_is c.args.u.0 f c.size-size.ensures) in
+    let size = c.unsigned_abs-size.result in
+    let s : size ≤ 255000000 = omega (arith, size_is c.args.u.0 f c.unsigned_abs-size.ensures.value) in
     let end : c.loop-k.k ≡ 9 = nine (c.loop-k.auto.k-end (lit≤ tt)) c.loop-k-test.false in
     let eighth : c.loop-k.power ≡ limit scale size 8 = c.loop-k.invariant.last ∙ ap (λ (n : ℕ). limit scale size (n - 1)) end in
     let ninth : c.scaled.result ≡ limit scale size 9 = c.scaled.ensures ∙ next size 9 (lit≤ tt) eighth in
@@ -130,14 +130,14 @@ overflow_cast-out-2 c =
 pub returns : goal.returns
 returns c =
     let f : SFits w64 c.args.u.0 = search rules in
-    let size = c.size-size.result in
+    let size = c.unsigned_abs-size.result in
     let e = c.loop-k.invariant in
     let out = c.loop-k.out in
-    let s : size ≤ 255000000 = omega (arith, size_is c.args.u.0 f c.size-size.ensures) in
+    let s : size ≤ 255000000 = omega (arith, size_is c.args.u.0 f c.unsigned_abs-size.ensures.value) in
     let end : c.loop-k.k ≡ 9 = nine (c.loop-k.auto.k-end (lit≤ tt)) c.loop-k-test.false in
     let eighth : c.loop-k.power ≡ limit scale size 8 = e.last ∙ ap (λ (n : ℕ). limit scale size (n - 1)) end in
     let ninth : c.scaled.result ≡ limit scale size 9 = c.scaled.ensures ∙ next size 9 (lit≤ tt) eighth in
     sym (take_all 10 (set out 9 (to_z w64 c.scaled.result)) (simp length-set (omega (arith, e.long))))
     ∙ one_more out size 9 (omega (arith, e.long)) (ap (λ (n : ℕ). take n out) (sym end) ∙ e.done ∙ ap (powers_of scale (pos size)) end)
     (power_is size s {n = 9} (lit< tt) ninth)
-    ∙ ap (λ (n : ℕ). powers_of scale (pos n) 10) (size_is c.args.u.0 f c.size-size.ensures)
+    ∙ ap (λ (n : ℕ). powers_of scale (pos n) 10) (size_is c.args.u.0 f c.unsigned_abs-size.ensures.value)

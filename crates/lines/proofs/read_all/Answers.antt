@@ -30,7 +30,7 @@ returns-then-least-eq0-clause-ended g c =
     record {
       input = i.taken ++ take c.in_ok-turn.turn.count c.read.new.input;
       long = omega (arith, a.left);
-      ends = λ h. omega (arith, h, c.if-least-eq0.true, c.least.ensures, c.left.ensures);
+      ends = λ h. omega (arith, h, c.if-min-eq0.true, c.min.ensures, c.left.ensures);
       all = whole _ _ a c.in_ok-last.ensures.value;
     }
 
@@ -40,7 +40,7 @@ returns-then-least-eq0-clause-written g c =
     let t = c.in_ok-turn.ensures in
     let a = more i.answered t.answered.1 in
     let reads = Consumes-trans _ _ _ _ _ i.consumed t.consumed in
-    let none : min c.in_ok-turn.turn.count c.in_ok-turn.turn.reading.left ≡ 0 = omega (arith, c.if-least-eq0.true, c.least.ensures, c.left.ensures) in
+    let none : min c.in_ok-turn.turn.count c.in_ok-turn.turn.reading.left ≡ 0 = omega (arith, c.if-min-eq0.true, c.min.ensures, c.left.ensures) in
     let ended : (c.in_ok-turn.turn.reading.left ≡ 0) ⊎ IsAtEnd (g.R.Read.remaining c.read.new.reader) = elim (none_of _ _ none) [ inl e ↦ inl e | inr e ↦ inr (t.end e) ] in
     lines_written c.args.form _ a _ _ reads ended _ _ _ (more_written i.answered _ _ _ _ i.written t.written) c.in_ok-last.ensures.written
 

@@ -17,7 +17,7 @@ pub returns : goal.returns
 returns c =
     let x = c.args.ms in
     let held = of {w = w64} c.ranges.ms in
-    let size : c.size.result ≡ nat_abs x = c.size.ensures ∙ ap nat_abs held.reads in
+    let size : c.unsigned_abs.result ≡ nat_abs x = c.unsigned_abs.ensures.value ∙ ap nat_abs held.reads in
     let letter : c.if-ms-lt0.letter ≡ letter_of latitude x =
     elim c.if-ms-lt0.branch [
       | then-ms-lt0 w ↦ w.letter-is ∙ sym (ap (letter_of latitude) (below_zero x (tested lt_z held zero_is w.if-ms-lt0.true)))

@@ -12,7 +12,7 @@ returns-in_err-new c =
 
 pub returns : goal.returns
 returns c =
-    let size : c.size.result ≡ nat_abs c.args.ms = c.size.ensures ∙ ap nat_abs (of {w = w64} c.ranges.ms).reads in
+    let size : c.unsigned_abs.result ≡ nat_abs c.args.ms = c.unsigned_abs.ensures.value ∙ ap nat_abs (of {w = w64} c.ranges.ms).reads in
     let line : c.spelled-line.result ≡ text longitude c.args.ms =
     c.spelled-line.ensures ∙ ap (λ (m : ℕ). spelled longitude m letter_e) size in
     let w =

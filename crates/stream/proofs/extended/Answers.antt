@@ -7,4 +7,4 @@ returns c =
     let long : length c.args.begun.bytes ≡ 27 = search rules in
     let one = c.copy.ensures in
     let two = c.copy-2.ensures in
-    extended_is c.args.begun long _ c.least-first.ensures c.args.more.now _ c.least-second.ensures _ one.value one.out_after _ two.value two.out_after
+    extended_is c.args.begun long _ c.min-first.ensures c.args.more.now _ c.min-second.ensures _ one.value one.out_after _ two.value two.out_after

@@ -7,7 +7,7 @@ lines-init c = start _ _ _ _ (omega arith) refl
 
 pub returns-then-to-end : goal.returns-then-to-end
 returns-then-to-end c =
-    let w = whole c.args.reading c.lines.invariant c.least-most.ensures c.end_for-to.ensures c.line_feed-end.ensures c.if-to-end.true _ c.extended.ensures in
+    let w = whole c.args.reading c.lines.invariant c.min-most.ensures c.end_for-to.ensures c.line_feed-end.ensures c.if-to-end.true _ c.extended.ensures in
     record { taken_value = w.0; reading_value = w.1.0; put_value = w.1.1.0; out_after = w.1.1.1.0; put_in_bounds = w.1.1.1.1 }
 
 pub ended-put-requires : goal.ended-put-requires
