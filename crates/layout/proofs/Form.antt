@@ -35,7 +35,7 @@ flat_long f w h [] = omega arith
 flat_long f w h (x ∷ l) = omega (arith, length-append (f x) (flat_map f l), h x, flat_long f w h l)
 
 -- ---- so many points as the sheet counts
-pieces_counted : (n width : ℕ) (bytes : List ℕ) → length (pieces n width bytes) ≡ n
+pub pieces_counted : (n width : ℕ) (bytes : List ℕ) → length (pieces n width bytes) ≡ n
 unfolding pieces
 pieces_counted zero width bytes = refl
 pieces_counted (suc n) width bytes = ap suc (pieces_counted n width (drop width bytes))

@@ -1,16 +1,17 @@
 -- The work on a sheet that was laid out, and on any: what each return answers, and what it leaves in the lent buffer. Assumes
 -- nothing.
-use mathlib.Core.Path.{◌≡◌, refl, sym, ap, ◌∙◌, subst}
+use mathlib.Core.Path.{◌≡◌, refl, sym, ap, ◌∙◌}
 use mathlib.Core.Bool.{Bool, true, false}
 use mathlib.Core.List.{List, [], ◌∷◌, ◌++◌, map, flat_map}
 use mathlib.Core.Logic.{◌⊎◌, inl, inr, ⊎_elim}
-use Prim.Native.Nat.{ℕ, suc, ◌+◌, ◌-◌, ◌*◌, ◌<◌, ◌≤◌}
+use Prim.Native.Nat.{ℕ, zero, suc, ◌+◌, ◌-◌, ◌*◌, ◌/◌, ◌<◌, ◌≤◌}
 use native.Mathlib.Omega.{arith}
 use lib.Dec.{leb}
 use lib.IntN.{ℤ}
 use lib.ListN.{length, get_or, take, drop, length-append, length-drop}
 use lib.Seq.{take_all}
 use borrow.Author.Tests.{lt-ltb, le-leb, lt-leb}
+use Rattle.std.specs.Simd.{first_chunks}
 use mir.Syntax.{w64}
 use mir.Val.{Fits, SFits, to_z, of_z}
 use Rattle.whole.proofs.Bools.{joined}
@@ -29,7 +30,7 @@ use Rattle.sheet.specs.Result.{in_record, answer_at, result_of, work_of}
 use Rattle.sheet.specs.Inside.{flags, all_flagged, point_record, records, finished}
 use Rattle.layout.specs.declared.Layout.{Layout}
 use Rattle.sheet.proofs.Codes.{flagged}
-use Rattle.layout.proofs.Form.{points_counted}
+use Rattle.layout.proofs.Form.{pieces_counted, points_counted}
 use Rattle.layout.proofs.Reading.{Laid, serial_bytes, codes_are, front, in_front}
 use Rattle.sheet.proofs.Results.{records_long}
 
@@ -45,15 +46,21 @@ of_points [] = refl
 of_points (p ∷ ps) = ap (λ (l : List ℕ). in_record (answer_at (point p)) ++ l) (of_points ps)
 
 -- a result, by the records of the sheet's body
-pub result_is : (t : List ℕ) → in_bytes 4 (serial t) ++ in_bytes 2 (count t) ++ records (count t) (body t) ≡ result_of (said t)
+pub result_is : (t : List ℕ) → in_bytes 4 (serial t) ++ in_bytes 2 (count t) ++ records (pieces (count t) 9 (body t)) ≡ result_of (said t)
 unfolding result_of records points
 result_is t = λ i. in_bytes 4 (serial t) ++ in_bytes 2 (sym (points_counted t) i) ++ of_points (pieces (count t) 9 (body t)) i
 
 pub result_long : (t : List ℕ) → length (result_of (said t)) ≡ 6 + count t * 13
 unfolding in_bytes in_places
-result_long t = ap length (sym (result_is t)) ∙ omega (arith, length-append (in_bytes 4 (serial t) ++ in_bytes 2 (count t)) (records (count t) (body t)), records_long (count t) (body t))
+result_long t = ap length (sym (result_is t)) ∙ omega (arith, length-append (in_bytes 4 (serial t) ++ in_bytes 2 (count t)) (records (pieces (count t) 9 (body t))), records_long (pieces (count t) 9 (body t)), pieces_counted (count t) 9 (body t))
 
 -- ---- a sheet that was laid out
+-- the points of a body, as it is cut into arrays
+chunks_are : (n : ℕ) (body : List ℕ) → first_chunks 9 n body ≡ pieces n 9 body
+unfolding pieces
+chunks_are zero body = refl
+chunks_are (suc n) body = ap (λ (l : List (List ℕ)). take 9 body ∷ l) (chunks_are n (drop 9 body))
+
 module _ (t : List ℕ) {layout : Layout} (l : Laid t layout) where
   abbrev d : ℕ
   d = layout.datums
@@ -74,35 +81,24 @@ module _ (t : List ℕ) {layout : Layout} (l : Laid t layout) where
   pub seven_more : Fits w64 (5 + d + 2)
   seven_more = record { fits = omega (arith, l.few, l.is_datums) }
 
-  pub records_fit : Fits w64 (n * 13)
-  records_fit = record { fits = omega (arith, l.most, l.is_points) }
-
-  pub result_fits : Fits w64 (6 + n * 13)
-  result_fits = record { fits = omega (arith, l.most, l.is_points) }
-
   serial_there : 4 ≤ length t
   serial_there = omega (arith, l.long)
 
   five : 5 ≤ length t
   five = omega (arith, l.long)
 
-  body_is : take (length t - (5 + d + 2)) (drop (5 + d + 2) t) ≡ body t
+  -- what is lent from the body on
+  abbrev rest : List ℕ
+  rest = take (length t - (5 + d + 2)) (drop (5 + d + 2) t)
+
+  rest_is : rest ≡ body t
   unfolding body
-  body_is =
+  rest_is =
       let e : 5 + d + 2 ≡ 7 + datums t = omega (arith, l.is_datums) in
       take_all (length t - (5 + d + 2)) (drop (5 + d + 2) t) (omega (arith, length-drop (5 + d + 2) t)) ∙ ap (λ (k : ℕ). drop k t) e
 
-  pub body_lent : n * 9 ≤ length (take (length t - (5 + d + 2)) (drop (5 + d + 2) t))
-  unfolding body
-  body_lent = subst (λ (b : List ℕ). n * 9 ≤ length b) (sym body_is) (omega (arith, l.long, l.is_points, length-drop (7 + datums t) t))
-
   pub serial_lent : length (take 4 t) ≡ 4
   serial_lent = length_part 0 4 t serial_there
-
-  pub count_lent : length (take (5 + d + 2 - (5 + d)) (drop (5 + d) t)) ≡ 2
-  count_lent =
-      let two : 5 + d + 2 - (5 + d) ≡ 2 = omega arith in
-      ap (λ (k : ℕ). length (take k (drop (5 + d) t))) two ∙ length_part (5 + d) 2 t body_start
 
   -- what a result begins with
   start_is : ((i : ℕ) → at t i < 256) → take 4 t ++ take (5 + d + 2 - (5 + d)) (drop (5 + d) t) ≡ in_bytes 4 (serial t) ++ in_bytes 2 (count t)
@@ -113,32 +109,49 @@ module _ (t : List ℕ) {layout : Layout} (l : Laid t layout) where
       (λ i. sym (serial_bytes t (are_bytes_lem t known) serial_there) i ++ take (two i) (drop (there i) t))
       ∙ ap (λ (c : List ℕ). in_bytes 4 (serial t) ++ c) (sym (part_back (5 + datums t) 2 t (omega (arith, l.long)) (are_bytes_lem t known)))
 
-  -- f is what `listed` answers, b what `all_listed` does, and out the lent buffer
-  module _ {f : List Bool} (is_f : f ≡ flags (take (5 + d - 5) (drop 5 t))) {b : Bool} (is_b : b ≡ all_flagged f n (take (length t - (5 + d + 2)) (drop (5 + d + 2) t))) (out : List ℕ) where
-    all_is : b ≡ every (λ p. is_listed (codes t) p.code) (points t)
-    unfolding all_flagged points
-    all_is =
-        is_b ∙ (λ i. all_flagged ((is_f ∙ ap flags (codes_are t five l.is_datums)) i) (l.is_points i) (body_is i))
-        ∙ every_same (λ p. get_or (flags (codes t)) p.code false) (λ p. is_listed (codes t) p.code) (λ p. flagged (codes t) l.right p.code) (map point (pieces (count t) 9 (body t)))
+  -- ps is the points that are lent
+  module _ {ps : List (List ℕ)} (is_ps : ps ≡ first_chunks 9 (length rest / 9) rest) where
+    points_are : ps ≡ pieces (count t) 9 (body t)
+    unfolding body
+    points_are =
+        let counted : length rest / 9 ≡ count t = omega (arith, ap length rest_is, l.long, length-drop (7 + datums t) t) in
+        is_ps ∙ (λ i. first_chunks 9 (counted i) (rest_is i)) ∙ chunks_are (count t) (body t)
 
-    pub unlisted : b ≡ false → (refused 9 ≡ counted (finished t (length out))) × (out ≡ lent (finished t (length out)) out)
-    unfolding finished
-    unlisted h = simp (← all_is, h) (refl, refl)
+    points_long : length ps ≡ count t
+    points_long = ap length points_are ∙ pieces_counted (count t) 9 (body t)
 
-    module _ (all : b ≡ true) where
-      pub no_room : length out < 6 + n * 13 → (refused 7 ≡ counted (finished t (length out))) × (out ≡ lent (finished t (length out)) out)
+    pub records_fit : Fits w64 (length ps * 13)
+    records_fit = record { fits = omega (arith, l.most, points_long) }
+
+    pub result_fits : Fits w64 (6 + length ps * 13)
+    result_fits = record { fits = omega (arith, l.most, points_long) }
+
+    -- f is what `listed` answers, b what `all_listed` does, and out the lent buffer
+    module _ {f : List Bool} (is_f : f ≡ flags (take (5 + d - 5) (drop 5 t))) {b : Bool} (is_b : b ≡ all_flagged f ps) (out : List ℕ) where
+      all_is : b ≡ every (λ p. is_listed (codes t) p.code) (points t)
+      unfolding all_flagged points
+      all_is =
+          is_b ∙ (λ i. all_flagged ((is_f ∙ ap flags (codes_are t five l.is_datums)) i) (points_are i))
+          ∙ every_same (λ p. get_or (flags (codes t)) p.code false) (λ p. is_listed (codes t) p.code) (λ p. flagged (codes t) l.right p.code) (map point (pieces (count t) 9 (body t)))
+
+      pub unlisted : b ≡ false → (refused 9 ≡ counted (finished t (length out))) × (out ≡ lent (finished t (length out)) out)
       unfolding finished
-      no_room h = simp (← all_is, all, lt-leb (length (result_of (said t))) (length out) (omega (arith, h, result_long t, l.is_points))) (refl, refl)
+      unlisted h = simp (← all_is, h) (refl, refl)
 
-      -- new is the buffer afterwards
-      pub all_written : {new : List ℕ} → ((i : ℕ) → at t i < 256) → 6 + n * 13 ≤ length out
-          → new ≡ take 4 t ++ take (5 + d + 2 - (5 + d)) (drop (5 + d) t) ++ records n (take (length t - (5 + d + 2)) (drop (5 + d + 2) t)) ++ drop (6 + n * 13) out
-          → (gives (6 + n * 13) ≡ counted (finished t (length out))) × (new ≡ lent (finished t (length out)) out)
-      unfolding finished
-      all_written {new} known room is-new =
-          let long : 6 + n * 13 ≡ length (result_of (said t)) = omega (arith, result_long t, l.is_points) in
-          let bytes : take 4 t ++ take (5 + d + 2 - (5 + d)) (drop (5 + d) t) ++ records n (take (length t - (5 + d + 2)) (drop (5 + d + 2) t)) ≡ result_of (said t) = (λ i. start_is known i ++ records (l.is_points i) (body_is i)) ∙ result_is t in
-          simp (← all_is, all, le-leb (length (result_of (said t))) (length out) (omega (arith, room, long))) (ap gives long, is-new ∙ (λ i. bytes i ++ drop (long i) out))
+      module _ (all : b ≡ true) where
+        pub no_room : length out < 6 + length ps * 13 → (refused 7 ≡ counted (finished t (length out))) × (out ≡ lent (finished t (length out)) out)
+        unfolding finished
+        no_room h = simp (← all_is, all, lt-leb (length (result_of (said t))) (length out) (omega (arith, h, result_long t, points_long))) (refl, refl)
+
+        -- new is the buffer afterwards
+        pub all_written : {new : List ℕ} → ((i : ℕ) → at t i < 256) → 6 + length ps * 13 ≤ length out
+            → new ≡ take 4 t ++ take (5 + d + 2 - (5 + d)) (drop (5 + d) t) ++ records ps ++ drop (6 + length ps * 13) out
+            → (gives (6 + length ps * 13) ≡ counted (finished t (length out))) × (new ≡ lent (finished t (length out)) out)
+        unfolding finished
+        all_written {new} known room is-new =
+            let long : 6 + length ps * 13 ≡ length (result_of (said t)) = omega (arith, result_long t, points_long) in
+            let bytes : take 4 t ++ take (5 + d + 2 - (5 + d)) (drop (5 + d) t) ++ records ps ≡ result_of (said t) = (λ i. start_is known i ++ records (points_are i)) ∙ result_is t in
+            simp (← all_is, all, le-leb (length (result_of (said t))) (length out) (omega (arith, room, long))) (ap gives long, is-new ∙ (λ i. bytes i ++ drop (long i) out))
 
 -- ---- any sheet
 -- what `read` answers of the unit's number as it came

@@ -29,15 +29,15 @@ use Rattle.sheet.proofs.Results.{point_record_long}
 use Rattle.sheet.proofs.Calls.{result_is}
 
 -- ---- the record at a place
-records_at : (n k : ℕ) (body : List ℕ) → k < n → part (k * 13) 13 (records n body) ≡ point_record (part (k * 9) 9 body)
+records_at : (n k : ℕ) (body : List ℕ) → k < n → part (k * 13) 13 (records (pieces n 9 body)) ≡ point_record (part (k * 9) 9 body)
 unfolding records pieces flat_map
 records_at zero k body h = absurd (omega arith)
-records_at (suc n) zero body h = take_at (point_record (take 9 body)) (records n (drop 9 body)) 13 (point_record_long (take 9 body))
+records_at (suc n) zero body h = take_at (point_record (take 9 body)) (records (pieces n 9 (drop 9 body))) 13 (point_record_long (take 9 body))
 records_at (suc n) (suc k) body h =
     let far : suc k * 13 ≡ length (point_record (take 9 body)) + k * 13 = omega (arith, point_record_long (take 9 body)) in
     let near : 9 + k * 9 ≡ suc k * 9 = omega arith in
-    ap (λ (m : ℕ). part m 13 (records (suc n) body)) far
-    ∙ ap (take 13) (drop-append-add (point_record (take 9 body)) (records n (drop 9 body)) (k * 13))
+    ap (λ (m : ℕ). part m 13 (records (pieces (suc n) 9 body))) far
+    ∙ ap (take 13) (drop-append-add (point_record (take 9 body)) (records (pieces n 9 (drop 9 body))) (k * 13))
     ∙ records_at n k (drop 9 body) (omega arith)
     ∙ ap (λ (l : List ℕ). point_record (take 9 l)) (drop-drop (k * 9) 9 body ∙ ap (λ (m : ℕ). drop m body) near)
 
@@ -49,7 +49,7 @@ module _ (t : List ℕ) where
   unfolding in_bytes in_places point_record body
   record_at_lem k h =
       ap (record_at k) (sym (result_is t))
-      ∙ ap (take 13) (drop-append-add start (records (count t) (body t)) (k * 13))
+      ∙ ap (take 13) (drop-append-add start (records (pieces (count t) 9 (body t))) (k * 13))
       ∙ records_at (count t) k (body t) h
       ∙ ap (λ (l : List ℕ). point_record (take 9 l)) (drop-drop (k * 9) (7 + datums t) t)
 

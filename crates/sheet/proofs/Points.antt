@@ -1,17 +1,16 @@
 -- The points of a sheet's body, one by one as the code goes through them, and their records. Assumes nothing.
-use mathlib.Core.Path.{◌≡◌, refl, sym, ap, ◌∙◌}
-use mathlib.Core.Bool.{Bool, true, false, ◌&&◌}
-use mathlib.Core.List.{List, [], ◌∷◌, map, flat_map}
-use Prim.Native.Nat.{ℕ, suc, ◌+◌, ◌-◌, ◌*◌, ◌<◌, ◌≤◌}
+use mathlib.Core.Path.{◌≡◌, refl, ap, ◌∙◌}
+use mathlib.Core.Bool.{Bool, false, ◌&&◌}
+use mathlib.Core.List.{List, [], ◌∷◌, flat_map}
+use Prim.Native.Nat.{ℕ, ◌<◌}
 use native.Mathlib.Omega.{arith}
+use Rattle.std.specs.List.{list_all}
 use lib.IntN.{ℤ, pos}
-use lib.ListN.{length, get_or, take, drop, length-drop}
-use lib.Seq.{length-take-le, get_or-take, get_or-drop, drop-drop}
+use lib.ListN.{get_or}
 use mir.Syntax.{w64}
 use mir.Val.{SFits, to_z, of_z}
 use Rattle.whole.proofs.Words.{of, from_unsigned}
-use Rattle.whole.specs.Every.{every}
-use Rattle.whole.specs.Places.{in_places}
+use Rattle.whole.specs.Places.{in_places, from_places}
 use Rattle.kinds.specs.Answer.{Answer, gives, refused, number_of}
 use Rattle.kinds.specs.Bytes.{part}
 use Rattle.kinds.specs.declared.Height.{Height}
@@ -22,20 +21,10 @@ use Rattle.datum.specs.Cases.{shift_says, geoid_says}
 use Rattle.datum.specs.declared.Shifts.{Shifts}
 use Rattle.tables.specs.Page.{Family}
 use Rattle.numbers.specs.Numbers.{number, in_bytes, complement, signed}
-use Rattle.layout.specs.Sheet.{point, pieces}
+use Rattle.layout.specs.Sheet.{point}
 use Rattle.sheet.specs.Result.{in_record}
 use Rattle.sheet.specs.Inside.{all_flagged, record_of, point_record}
 use Rattle.numbers.proofs.Numbers.{one_read}
-
--- the bytes of the point at i
-piece_long : (n i : ℕ) (body : List ℕ) → i < n → n * 9 ≤ length body → length (take 9 (drop (i * 9) body)) ≡ 9
-piece_long n i body more whole = length-take-le 9 (drop (i * 9) body) (omega (arith, length-drop (i * 9) body))
-
--- as they are lent
-pub piece_lent : (n i : ℕ) (body : List ℕ) → i < n → n * 9 ≤ length body → length (take (i * 9 + 9 - i * 9) (drop (i * 9) body)) ≡ 9
-piece_lent n i body more whole =
-    let nine : i * 9 + 9 - i * 9 ≡ 9 = omega arith in
-    ap (λ (k : ℕ). length (take k (drop (i * 9) body))) nine ∙ piece_long n i body more whole
 
 -- ---- the record of a point
 -- a, b and c are the bytes of x, y and z
@@ -71,41 +60,13 @@ module _ (t : List ℕ) {code longitude : ℕ} {latitude : ℤ}
       ap in_record (e ∙ (λ i. answer_of (c i) (((of fits).reads ∙ is-latitude) i) (l i)))
 
 -- ---- whether each code is flagged
-module _ (flags : List Bool) (n i : ℕ) (body : List ℕ) where
-  abbrev flag : Bool
-  flag = get_or flags (at body (i * 9)) false
+-- the code of a point's bytes is the first of them
+code_is : (bytes : List ℕ) → get_or bytes 0 0 ≡ (point bytes).code
+unfolding point number from_places
+code_is [] = refl
+code_is (b ∷ rest) = one_read 0 (b ∷ rest) (omega arith)
 
-  abbrev left : Bool
-  left = all_flagged flags (n - i) (drop (i * 9) body)
-
-  abbrev rest : Bool
-  rest = all_flagged flags (n - (i + 1)) (drop ((i + 1) * 9) body)
-
-  module _ (more : i < n) (whole : n * 9 ≤ length body) where
-    -- the code of the point at i
-    code_is : (point (take 9 (drop (i * 9) body))).code ≡ at body (i * 9)
-    unfolding point
-    code_is =
-        let zero_more : i * 9 + 0 ≡ i * 9 = omega arith in
-        let room : 0 + 1 ≤ length (take 9 (drop (i * 9) body)) = omega (arith, piece_long n i body more whole) in
-        sym (one_read 0 (take 9 (drop (i * 9) body)) room) ∙ get_or-take 9 (drop (i * 9) body) 0 0 (omega arith) ∙ get_or-drop (i * 9) body 0 0 ∙ ap (at body) zero_more
-
-    flag_next : left ≡ (flag && rest)
-    unfolding all_flagged pieces
-    flag_next =
-        let a : n - i ≡ suc (n - (i + 1)) = omega arith in
-        let b : i * 9 + 9 ≡ (i + 1) * 9 = omega arith in
-        ap (λ (k : ℕ). all_flagged flags k (drop (i * 9) body)) a
-        ∙ (λ j. get_or flags (code_is j) false && every (λ p. get_or flags p.code false) (map point (pieces (n - (i + 1)) 9 ((drop-drop 9 (i * 9) body ∙ ap (λ (k : ℕ). drop k body) b) j))))
-
-    pub flag_missing : false ≡ flag → false ≡ left
-    flag_missing e = ap (λ (b : Bool). b && rest) e ∙ sym flag_next
-
-    pub flag_found : true ≡ flag → rest ≡ left
-    flag_found e = ap (λ (b : Bool). b && rest) e ∙ sym flag_next
-
-  pub flags_end : n ≤ i → true ≡ left
-  unfolding all_flagged pieces
-  flags_end h =
-      let a : n - i ≡ 0 = omega arith in
-      sym (ap (λ (k : ℕ). all_flagged flags k (drop (i * 9) body)) a)
+pub all_flagged_is : (flags : List Bool) (points : List (List ℕ)) → list_all (λ bytes. get_or flags (get_or bytes 0 0) false) points ≡ all_flagged flags points
+unfolding all_flagged
+all_flagged_is flags [] = refl
+all_flagged_is flags (p ∷ points) = λ i. get_or flags (code_is p i) false && all_flagged_is flags points i

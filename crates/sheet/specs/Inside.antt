@@ -4,7 +4,7 @@ use mathlib.Core.List.{List, [], ◌∷◌, map, flat_map}
 use Rattle.whole.specs.Every.{every}
 use Rattle.kinds.specs.Answer.{Answer, in_order, placed}
 use Rattle.numbers.specs.Numbers.{in_bytes, complement}
-use Rattle.layout.specs.Sheet.{point, pieces, point_length, is_listed, listed_tests, said}
+use Rattle.layout.specs.Sheet.{point, is_listed, listed_tests, said}
 use Rattle.sheet.specs.Result.{in_record, answer_at, result_of}
 
 -- ---- the points' codes
@@ -17,8 +17,8 @@ flags_from (suc n) code codes = is_listed codes code ∷ flags_from n (suc code)
 unfoldable pub flags : List ℕ → List Bool
 flags codes = flags_from 256 0 codes
 
-unfoldable pub all_flagged : List Bool → ℕ → List ℕ → Bool
-all_flagged flags n body = every (λ p. get_or flags p.code false) (map point (pieces n point_length body))
+unfoldable pub all_flagged : List Bool → List (List ℕ) → Bool
+all_flagged flags points = every (λ p. get_or flags p.code false) (map point points)
 
 -- ---- working
 -- three values beside a refusal number or 0
@@ -29,9 +29,9 @@ record_of refusal first second third = refusal ∷ flat_map (λ value. in_bytes 
 unfoldable pub point_record : List ℕ → List ℕ
 point_record bytes = in_record (answer_at (point bytes))
 
--- and of the first n points
-unfoldable pub records : ℕ → List ℕ → List ℕ
-records n body = flat_map point_record (pieces n point_length body)
+-- and of points
+unfoldable pub records : List (List ℕ) → List ℕ
+records points = flat_map point_record points
 
 -- after the tests of crate `layout`
 unfoldable pub finished : List ℕ → ℕ → Answer (List ℕ)

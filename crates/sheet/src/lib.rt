@@ -5,7 +5,6 @@
 ghost use Rattle.std.specs.Prelude.{◌≡◌, true, ◌++◌, ◌+◌, ◌*◌, ◌≤◌, length, drop};
 ghost use Rattle.kinds.specs.Answer.{gives, counted, lent};
 ghost use Rattle.kinds.specs.Cases.{written};
-ghost use Rattle.layout.specs.Sheet.{point_length};
 ghost use Rattle.layout.specs.Layout.{laid_out};
 ghost use Rattle.sheet.specs.Result.{record_length, work_of};
 ghost use Rattle.sheet.specs.Inside.{flags, all_flagged, record_of, point_record, records, finished};
@@ -37,32 +36,21 @@ fn listed(codes: &[u8]) -> [bool; 256]
     ensures { result ≡ flags codes.now }
 {
     let mut flags = [false; 256];
-    let mut i = 0;
-    while i < codes.len() {
-        flags[codes[i] as usize] = true;
-        i += 1;
+    for &code in codes {
+        flags[code as usize] = true;
     }
     flags
 }
 
 // Whether every point's code is listed.
-fn all_listed(body: &[u8], points: usize, listed: [bool; 256]) -> bool
-    requires { points * point_length ≤ length body.now }
-    ensures { result ≡ all_flagged listed points body.now }
+fn all_listed(points: &[[u8; layout::POINT]], listed: [bool; 256]) -> bool
+    ensures { result ≡ all_flagged listed points.now }
 {
-    let mut i = 0;
-    while i < points {
-        let is_listed = listed[body[i * layout::POINT] as usize];
-        if !is_listed {
-            return false;
-        }
-        i += 1;
-    }
-    true
+    points.iter().all(|point| listed[point[0] as usize])
 }
 
 // The record of a point in a result: the number of its refusal, or 0, and three values.
-fn in_record(refusal: u8, first: i32, second: i32, third: i32) -> [u8; 13]
+fn in_record(refusal: u8, first: i32, second: i32, third: i32) -> [u8; RECORD]
     ensures { result ≡ record_of refusal first second third }
 {
     let a = numbers::in_four_signed(first);
@@ -74,8 +62,7 @@ fn in_record(refusal: u8, first: i32, second: i32, third: i32) -> [u8; 13]
 }
 
 // The record of the point that 9 bytes of a sheet say.
-fn point_record(point: &[u8]) -> [u8; 13]
-    requires { length point.now ≡ point_length }
+fn point_record(point: &[u8; layout::POINT]) -> [u8; RECORD]
     ensures { result ≡ point_record point.now }
 {
     let latitude = numbers::signed(numbers::four(point, 1));
@@ -93,32 +80,25 @@ fn point_record(point: &[u8]) -> [u8; 13]
 }
 
 // The records of all points, at the start of out.
-fn records(body: &[u8], points: usize, out: &mut [u8])
-    requires point_length_in_bounds { points * point_length ≤ length body.now }
-    requires record_length_in_bounds { points * record_length ≤ length out.old }
-    ensures { out.new ≡ records points body.now ++ drop (points * record_length) out.old }
+fn records(points: &[[u8; layout::POINT]], out: &mut [u8])
+    requires { length points.now * record_length ≤ length out.old }
+    ensures { out.new ≡ records points.now ++ drop (length points.now * record_length) out.old }
 {
-    let mut i = 0;
-    while i < points {
-        let from = i * layout::POINT;
-        let record = point_record(&body[from..from + layout::POINT]);
-        let to = i * RECORD;
-        kinds::copy(&record, &mut out[to..]);
-        i += 1;
+    for (i, point) in points.iter().enumerate() {
+        kinds::copy(&point_record(point), &mut out[i * RECORD..]);
     }
 }
 
 // The serial and the count of points, as the sheet has them, and the records, at the start of a result that has room for them.
-fn put(serial: &[u8], count: &[u8], body: &[u8], points: usize, res: &mut [u8])
+fn put(serial: &[u8], count: &[u8], points: &[[u8; layout::POINT]], res: &mut [u8])
     requires serial_len { length serial.now ≡ 4 }
     requires count_len { length count.now ≡ 2 }
-    requires point_length_in_bounds { points * point_length ≤ length body.now }
-    requires record_length_in_bounds { 6 + points * record_length ≤ length res.old }
-    ensures { res.new ≡ serial.now ++ count.now ++ records points body.now ++ drop (6 + points * record_length) res.old }
+    requires in_bounds { 6 + length points.now * record_length ≤ length res.old }
+    ensures { res.new ≡ serial.now ++ count.now ++ records points.now ++ drop (6 + length points.now * record_length) res.old }
 {
     kinds::copy(serial, res);
     kinds::copy(count, &mut res[layout::SERIAL..]);
-    records(body, points, &mut res[START..]);
+    records(points, &mut res[START..]);
 }
 
 // The rest of the work on a sheet that passed the tests of `read`.
@@ -127,19 +107,21 @@ fn finished(layout: Layout, sheet: &[u8], res: &mut [u8]) -> Result<usize, Refus
     ensures result_value { written result ≡ counted (finished sheet.now (length res.old)) }
     ensures res_after { res.new ≡ lent (finished sheet.now (length res.old)) res.old }
 {
-    let points = layout.points;
-    let bytes = START + points * RECORD;
     let count_at = layout::CODES + layout.datums;
     let body_at = count_at + layout::COUNT;
-    let body = &sheet[body_at..];
-    let all = all_listed(body, points, listed(&sheet[layout::CODES..count_at]));
-    if !all {
+    let (points, _) = sheet[body_at..].as_chunks::<{ layout::POINT }>();
+    if !all_listed(points, listed(&sheet[layout::CODES..count_at])) {
         return Err(Refusal::Sheet);
     }
+    let bytes = START + points.len() * RECORD;
     if res.len() < bytes {
         return Err(Refusal::Room);
     }
-    let serial = &sheet[..layout::SERIAL];
-    put(serial, &sheet[count_at..body_at], body, points, res);
+    put(
+        &sheet[..layout::SERIAL],
+        &sheet[count_at..body_at],
+        points,
+        res,
+    );
     Ok(bytes)
 }
