@@ -81,6 +81,12 @@ module _ (t : List ℕ) {layout : Layout} (l : Laid t layout) where
   pub seven_more : Fits w64 (5 + d + 2)
   seven_more = record { fits = omega (arith, l.few, l.is_datums) }
 
+  pub records_fit : Fits w64 (n * 13)
+  records_fit = record { fits = omega (arith, l.most, l.is_points) }
+
+  pub result_fits : Fits w64 (6 + n * 13)
+  result_fits = record { fits = omega (arith, l.most, l.is_points) }
+
   serial_there : 4 ≤ length t
   serial_there = omega (arith, l.long)
 
@@ -120,11 +126,8 @@ module _ (t : List ℕ) {layout : Layout} (l : Laid t layout) where
     points_long : length ps ≡ count t
     points_long = ap length points_are ∙ pieces_counted (count t) 9 (body t)
 
-    pub records_fit : Fits w64 (length ps * 13)
-    records_fit = record { fits = omega (arith, l.most, points_long) }
-
-    pub result_fits : Fits w64 (6 + length ps * 13)
-    result_fits = record { fits = omega (arith, l.most, points_long) }
+    pub points_fit : {room : ℕ} → 6 + n * 13 ≤ room → 6 + length ps * 13 ≤ room
+    points_fit h = omega (arith, h, points_long, l.is_points)
 
     -- f is what `listed` answers, b what `all_listed` does, and out the lent buffer
     module _ {f : List Bool} (is_f : f ≡ flags (take (5 + d - 5) (drop 5 t))) {b : Bool} (is_b : b ≡ all_flagged f ps) (out : List ℕ) where
@@ -139,19 +142,20 @@ module _ (t : List ℕ) {layout : Layout} (l : Laid t layout) where
       unlisted h = simp (← all_is, h) (refl, refl)
 
       module _ (all : b ≡ true) where
-        pub no_room : length out < 6 + length ps * 13 → (refused 7 ≡ counted (finished t (length out))) × (out ≡ lent (finished t (length out)) out)
+        pub no_room : length out < 6 + n * 13 → (refused 7 ≡ counted (finished t (length out))) × (out ≡ lent (finished t (length out)) out)
         unfolding finished
-        no_room h = simp (← all_is, all, lt-leb (length (result_of (said t))) (length out) (omega (arith, h, result_long t, points_long))) (refl, refl)
+        no_room h = simp (← all_is, all, lt-leb (length (result_of (said t))) (length out) (omega (arith, h, result_long t, l.is_points))) (refl, refl)
 
         -- new is the buffer afterwards
-        pub all_written : {new : List ℕ} → ((i : ℕ) → at t i < 256) → 6 + length ps * 13 ≤ length out
+        pub all_written : {new : List ℕ} → ((i : ℕ) → at t i < 256) → 6 + n * 13 ≤ length out
             → new ≡ take 4 t ++ take (5 + d + 2 - (5 + d)) (drop (5 + d) t) ++ records ps ++ drop (6 + length ps * 13) out
-            → (gives (6 + length ps * 13) ≡ counted (finished t (length out))) × (new ≡ lent (finished t (length out)) out)
+            → (gives (6 + n * 13) ≡ counted (finished t (length out))) × (new ≡ lent (finished t (length out)) out)
         unfolding finished
         all_written {new} known room is-new =
-            let long : 6 + length ps * 13 ≡ length (result_of (said t)) = omega (arith, result_long t, points_long) in
+            let long : 6 + n * 13 ≡ length (result_of (said t)) = omega (arith, result_long t, l.is_points) in
+            let same : 6 + length ps * 13 ≡ length (result_of (said t)) = omega (arith, result_long t, points_long) in
             let bytes : take 4 t ++ take (5 + d + 2 - (5 + d)) (drop (5 + d) t) ++ records ps ≡ result_of (said t) = (λ i. start_is known i ++ records (points_are i)) ∙ result_is t in
-            simp (← all_is, all, le-leb (length (result_of (said t))) (length out) (omega (arith, room, long))) (ap gives long, is-new ∙ (λ i. bytes i ++ drop (long i) out))
+            simp (← all_is, all, le-leb (length (result_of (said t))) (length out) (omega (arith, room, long))) (ap gives long, is-new ∙ (λ i. bytes i ++ drop (same i) out))
 
 -- ---- any sheet
 -- what `read` answers of the unit's number as it came

@@ -6,7 +6,8 @@ use Prim.Native.Nat.{ℕ, ◌<◌}
 use native.Mathlib.Omega.{arith}
 use Rattle.std.specs.List.{list_all}
 use lib.IntN.{ℤ, pos}
-use lib.ListN.{get_or}
+use borrow.Rule.Slice.PartMut.{put_mid}
+use lib.ListN.{length, get_or, replicate}
 use mir.Syntax.{w64}
 use mir.Val.{SFits, to_z, of_z}
 use Rattle.whole.proofs.Words.{of, from_unsigned}
@@ -15,7 +16,6 @@ use Rattle.kinds.specs.Answer.{Answer, gives, refused, number_of}
 use Rattle.kinds.specs.Bytes.{part}
 use Rattle.kinds.specs.declared.Height.{Height}
 use Rattle.kinds.specs.declared.Refusal.{Refusal}
-use Rattle.kinds.proofs.Bytes.{at}
 use Rattle.datum.specs.Point.{answer_of}
 use Rattle.datum.specs.Cases.{shift_says, geoid_says}
 use Rattle.datum.specs.declared.Shifts.{Shifts}
@@ -27,12 +27,15 @@ use Rattle.sheet.specs.Inside.{all_flagged, record_of, point_record}
 use Rattle.numbers.proofs.Numbers.{one_read}
 
 -- ---- the record of a point
--- a, b and c are the bytes of x, y and z
-pub record_is : (refusal : ℕ) (x y z : ℤ) (a b c : List ℕ) → a ≡ in_bytes 4 (complement x) → b ≡ in_bytes 4 (complement y) → c ≡ in_bytes 4 (complement z)
-    → refusal ∷ at a 0 ∷ at a 1 ∷ at a 2 ∷ at a 3 ∷ at b 0 ∷ at b 1 ∷ at b 2 ∷ at b 3 ∷ at c 0 ∷ at c 1 ∷ at c 2 ∷ at c 3 ∷ [] ≡ record_of refusal x y z
+-- a, b and c are the bytes of x, y and z, each put at its place
+pub record_room : (refusal : ℕ) (x y : ℤ) {a b : List ℕ} → a ≡ in_bytes 4 (complement x) → b ≡ in_bytes 4 (complement y) → length (put_mid 5 4 (put_mid 1 4 (refusal ∷ replicate 12 0) a) b) ≡ 13
+unfolding in_bytes in_places
+record_room refusal x y p q = λ i. length (put_mid 5 4 (put_mid 1 4 (refusal ∷ replicate 12 0) (p i)) (q i))
+
+pub record_is : (refusal : ℕ) (x y z : ℤ) {a b c : List ℕ} → a ≡ in_bytes 4 (complement x) → b ≡ in_bytes 4 (complement y) → c ≡ in_bytes 4 (complement z)
+    → put_mid 9 4 (put_mid 5 4 (put_mid 1 4 (refusal ∷ replicate 12 0) a) b) c ≡ record_of refusal x y z
 unfolding record_of in_bytes flat_map in_places
-record_is refusal x y z a b c p q r = λ i.
-    refusal ∷ at (p i) 0 ∷ at (p i) 1 ∷ at (p i) 2 ∷ at (p i) 3 ∷ at (q i) 0 ∷ at (q i) 1 ∷ at (q i) 2 ∷ at (q i) 3 ∷ at (r i) 0 ∷ at (r i) 1 ∷ at (r i) 2 ∷ at (r i) 3 ∷ []
+record_is refusal x y z p q r = λ i. put_mid 9 4 (put_mid 5 4 (put_mid 1 4 (refusal ∷ replicate 12 0) (p i)) (q i)) (r i)
 
 -- the three cases of an answer
 pub shift_record : (s : Shifts) → record_of 0 s.latitude.0 s.longitude.0 s.height.0 ≡ in_record (gives (shift_says s))

@@ -53,12 +53,12 @@ fn all_listed(points: &[[u8; layout::POINT]], listed: [bool; 256]) -> bool
 fn in_record(refusal: u8, first: i32, second: i32, third: i32) -> [u8; RECORD]
     ensures { result ≡ record_of refusal first second third }
 {
-    let a = numbers::in_four_signed(first);
-    let b = numbers::in_four_signed(second);
-    let c = numbers::in_four_signed(third);
-    [
-        refusal, a[0], a[1], a[2], a[3], b[0], b[1], b[2], b[3], c[0], c[1], c[2], c[3],
-    ]
+    let mut record = [0; RECORD];
+    record[0] = refusal;
+    record[1..5].copy_from_slice(&numbers::in_four_signed(first));
+    record[5..9].copy_from_slice(&numbers::in_four_signed(second));
+    record[9..RECORD].copy_from_slice(&numbers::in_four_signed(third));
+    record
 }
 
 // The record of the point that 9 bytes of a sheet say.
@@ -107,21 +107,18 @@ fn finished(layout: Layout, sheet: &[u8], res: &mut [u8]) -> Result<usize, Refus
     ensures result_value { written result ≡ counted (finished sheet.now (length res.old)) }
     ensures res_after { res.new ≡ lent (finished sheet.now (length res.old)) res.old }
 {
+    let bytes = START + layout.points * RECORD;
     let count_at = layout::CODES + layout.datums;
     let body_at = count_at + layout::COUNT;
     let (points, _) = sheet[body_at..].as_chunks::<{ layout::POINT }>();
-    if !all_listed(points, listed(&sheet[layout::CODES..count_at])) {
+    let all = all_listed(points, listed(&sheet[layout::CODES..count_at]));
+    if !all {
         return Err(Refusal::Sheet);
     }
-    let bytes = START + points.len() * RECORD;
     if res.len() < bytes {
         return Err(Refusal::Room);
     }
-    put(
-        &sheet[..layout::SERIAL],
-        &sheet[count_at..body_at],
-        points,
-        res,
-    );
+    let serial = &sheet[..layout::SERIAL];
+    put(serial, &sheet[count_at..body_at], points, res);
     Ok(bytes)
 }
