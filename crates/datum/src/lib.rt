@@ -83,9 +83,9 @@ pub fn wgs84(code: i64, latitude: i64, longitude: i64) -> Result<Wgs84Position, 
 pub fn answer(code: i64, latitude: i64, longitude: i64) -> Result<Given, Refusal>
     ensures { point_answer result ≡ answer_of code latitude longitude }
 {
-    let datum = coded(code)?;
-    let position = located(datum, latitude, longitude)?;
-    match datum.values(position) {
+    let either = coded(code)?;
+    let position = located(either, latitude, longitude)?;
+    match either.values(position) {
         Values::Shift {
             latitude,
             longitude,

@@ -2,11 +2,11 @@
 use kinds::{LocalLatitude, LocalPosition};
 use std::io;
 use std::io::Write;
-use tables::{Axis, Frame};
+use tables::{Axis, Family, Frame};
 
 // From 42° to 58° N and from 5° W to 15° E.
 const FRAME: Frame = Frame {
-    geoid: false,
+    family: Family::Shift,
     u: Axis {
         factor: 1,
         offset: 0,

@@ -15,31 +15,31 @@ use Rattle.datum.proofs.answer.Goals as goal
 
 pub values-requires : goal.values-requires
 values-requires c =
-    let page = datum_page c.in_ok-datum.datum in
+    let page = datum_page c.in_ok-either.either in
     inside page c.args.latitude c.args.longitude (positioned (located page) c.ranges.latitude c.ranges.longitude c.in_ok-position.ensures)
 
 pub returns-in-Shift : goal.returns-in-Shift
 returns-in-Shift c =
-    let page = datum_page c.in_ok-datum.datum in
+    let page = datum_page c.in_ok-either.either in
     let a : SFits w32 c.in-Shift.latitude = search rules in
     let b : SFits w32 c.in-Shift.longitude = search rules in
     let h : SFits w32 c.in-Shift.height = search rules in
     ap gives (c.of.ensures ∙ (λ i. shift ((of a).reads i) ((of b).reads i) ((of h).reads i)) ∙ sym (ap values_say c.in-Shift.is) ∙ c.values.ensures)
     ∙ sym (works page c.args.latitude c.args.longitude (positioned (located page) c.ranges.latitude c.ranges.longitude c.in_ok-position.ensures))
-    ∙ right is_either c.args.code c.args.latitude c.args.longitude page refl (coded_page c.ranges.code c.in_ok-datum.ensures)
+    ∙ right is_either c.args.code c.args.latitude c.args.longitude page refl (coded_page c.ranges.code c.in_ok-either.ensures)
 
 pub returns-in-Geoid : goal.returns-in-Geoid
 returns-in-Geoid c =
-    let page = datum_page c.in_ok-datum.datum in
+    let page = datum_page c.in_ok-either.either in
     let h : SFits w32 c.in-Geoid.height = search rules in
     ap (λ (x : ℤ). gives (geoid x)) (c.from.ensures ∙ (of h).reads)
     ∙ ap gives (sym (ap values_say c.in-Geoid.is) ∙ c.values.ensures)
     ∙ sym (works page c.args.latitude c.args.longitude (positioned (located page) c.ranges.latitude c.ranges.longitude c.in_ok-position.ensures))
-    ∙ right is_either c.args.code c.args.latitude c.args.longitude page refl (coded_page c.ranges.code c.in_ok-datum.ensures)
+    ∙ right is_either c.args.code c.args.latitude c.args.longitude page refl (coded_page c.ranges.code c.in_ok-either.ensures)
 
 pub returns-in_err-position : goal.returns-in_err-position
 returns-in_err-position c =
-    let page = datum_page c.in_ok-datum.datum in
+    let page = datum_page c.in_ok-either.either in
     handed_on given_says c.from_residual-in_err-position.result _ c.from_residual-in_err-position.ensures.1
     ∙ sym (refuses page c.args.latitude c.args.longitude _ (positioned (located page) c.ranges.latitude c.ranges.longitude c.in_err-position.ensures))
-    ∙ right is_either c.args.code c.args.latitude c.args.longitude page refl (coded_page c.ranges.code c.in_ok-datum.ensures)
+    ∙ right is_either c.args.code c.args.latitude c.args.longitude page refl (coded_page c.ranges.code c.in_ok-either.ensures)
