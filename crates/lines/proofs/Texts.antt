@@ -14,7 +14,7 @@ use Rattle.line.specs.declared.Form.TheVariants.{Numbers, Waypoints}
 use Rattle.stream.specs.Stream.{printed, head, foot, ended, begun_after, last, lines, limit, output, answers}
 use Rattle.stream.proofs.Printing.{printed_short, flat_pieces, answers_short}
 use Rattle.lines.specs.Asked.{is_same, asked}
-use Rattle.lines.specs.declared.Request.TheVariants.{Answers, Unknown}
+use Rattle.std.specs.Prelude.{Some, None}
 
 -- ---- what stands before the first line and after the last
 head_short : (form : Form) → length (head form) ≤ 121
@@ -59,5 +59,5 @@ as_compared (x ∷ xs) (y ∷ ys) = ap (λ (t : Bool). eqb x y && t) (as_compare
 
 -- ---- what is asked for
 module _ (words : ℕ) (next : List ℕ) where
-  pub word_asked : 2 ≤ words → {same : Bool} → same ≡ pointwise eqb next (ascii "--gpx") → cond (eqb words 2 && same) (Answers Waypoints) Unknown ≡ asked words next
+  pub word_asked : 2 ≤ words → {same : Bool} → same ≡ pointwise eqb next (ascii "--gpx") → cond (eqb words 2 && same) (Some Waypoints) None ≡ asked words next
   word_asked h is-same = simp (le-ltb words 2 h, as_compared next (ascii "--gpx"), is-same)

@@ -19,13 +19,6 @@ use std::io::{Read, Write};
 use std::{fmt, io};
 use stream::Reading;
 
-// What the program is asked for: answers in a form, or what it does not know.
-#[derive(Clone, Copy)]
-enum Request {
-    Answers(Form),
-    Unknown,
-}
-
 // Where in an output a text stands that tells of no line: before the first, or after the last.
 #[derive(Clone, Copy)]
 enum Edge {
@@ -71,8 +64,8 @@ fn main(rt: HostRuntime) {
     let mut word = [0; 5];
     let count = rt.arg(1, &mut word).unwrap_or(0);
     match asked(word_count(&rt), &word[..count]) {
-        Request::Answers(form) => in_form(&rt, form, &mut rt.stdin(), &mut rt.stdout()),
-        Request::Unknown => {
+        Some(form) => in_form(&rt, form, &mut rt.stdin(), &mut rt.stdout()),
+        None => {
             let _ = eprintln!(rt; "lines: it takes no argument but --gpx");
         }
     }
@@ -88,17 +81,17 @@ fn word_count<E: Env>(rt: &E) -> usize {
     usize::MAX
 }
 
-// What so many words ask for, the program's name among them, by the one after the name.
-fn asked(words: usize, next: &[u8]) -> Request
+// The form that so many words ask for, the program's name among them, by the one after the name.
+fn asked(words: usize, next: &[u8]) -> Option<Form>
     ensures { result ≡ asked words next.now }
 {
     if words < 2 {
-        return Request::Answers(Form::Numbers);
+        return Some(Form::Numbers);
     }
     if (words == 2) & (next == b"--gpx".as_slice()) {
-        return Request::Answers(Form::Waypoints);
+        return Some(Form::Waypoints);
     }
-    Request::Unknown
+    None
 }
 
 fn in_form<E: Eprint, R: Read, W: Write>(rt: &E, form: Form, reader: &mut R, writer: &mut W) {

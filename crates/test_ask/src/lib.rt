@@ -57,6 +57,24 @@ pub fn text<R: Read>(questions: &mut R, out: &mut [u8]) -> io::Result<usize>
     Ok(n)
 }
 
+// Answers each question by its letter, until none comes. The count of turns is there to end: no input has so many.
+pub fn each<R: Read, W: Write, F: Fn(&mut R, &mut W, u8) -> io::Result<()>>(
+    questions: &mut R,
+    answers: &mut W,
+    answer: F,
+) -> io::Result<()>
+    requires { F.IsAlwaysCallable answer }
+{
+    for _ in 0..u64::MAX {
+        let asked = letter(questions)?;
+        answer(questions, answers, asked)?;
+        if asked == 0 {
+            break;
+        }
+    }
+    Ok(())
+}
+
 // A text that is printed as it stands: what a case is called.
 pub fn label<R: Read, W: Write>(questions: &mut R, answers: &mut W) -> io::Result<()> {
     let mut words = [0; 64];

@@ -60,28 +60,20 @@ fn said_written<W: Write>(answers: &mut W, written: Written) -> io::Result<()> {
     test_show::number(answers, i64::from(written.written))
 }
 
-fn latitude<R: io::Read, W: Write>(
+// A number, written by `write` into the start of a buffer.
+fn position<R: io::Read, W: Write, F: Fn(i64, &mut [u8]) -> Written>(
     questions: &mut R,
     answers: &mut W,
-    out: &mut [u8],
-) -> io::Result<()> {
+    write: F,
+) -> io::Result<()>
+    requires { F.IsAlwaysCallable write }
+{
+    let mut out = [b'#'; 14];
     let ms = test_ask::number(questions)?;
-    let room = test_ask::room(questions, out)?;
-    let written = buckettin::buckettin_write_latitude(ms, &mut out[..room]);
+    let room = test_ask::room(questions, &out)?;
+    let written = write(ms, &mut out[..room]);
     said_written(answers, written)?;
-    test_show::text(answers, out)
-}
-
-fn longitude<R: io::Read, W: Write>(
-    questions: &mut R,
-    answers: &mut W,
-    out: &mut [u8],
-) -> io::Result<()> {
-    let ms = test_ask::number(questions)?;
-    let room = test_ask::room(questions, out)?;
-    let written = buckettin::buckettin_write_longitude(ms, &mut out[..room]);
-    said_written(answers, written)?;
-    test_show::text(answers, out)
+    test_show::text(answers, &out)
 }
 
 fn line<R: io::Read, W: Write>(
@@ -135,8 +127,8 @@ fn answer<R: io::Read, W: Write>(questions: &mut R, answers: &mut W, letter: u8)
             test_ask::number(questions)?,
         ),
         b't' => text(questions, answers),
-        b'a' => latitude(questions, answers, &mut [b'#'; 14]),
-        b'o' => longitude(questions, answers, &mut [b'#'; 14]),
+        b'a' => position(questions, answers, buckettin::buckettin_write_latitude),
+        b'o' => position(questions, answers, buckettin::buckettin_write_longitude),
         b'l' => line(questions, answers, &mut [b'#'; 24]),
         b's' => sheet(questions, answers, &mut [b'#'; 20]),
         b'w' => waypoint(questions, answers, &mut [b'#'; 50]),
@@ -144,21 +136,6 @@ fn answer<R: io::Read, W: Write>(questions: &mut R, answers: &mut W, letter: u8)
     }
 }
 
-// Whether something was asked.
-fn turn<R: io::Read, W: Write>(questions: &mut R, answers: &mut W) -> io::Result<bool> {
-    let letter = test_ask::letter(questions)?;
-    answer(questions, answers, letter)?;
-    Ok(letter != 0)
-}
-
-// The count of turns is there to end: no input has so many.
 fn main(rt: HostRuntime) -> io::Result<()> {
-    let mut questions = rt.stdin();
-    let mut answers = rt.stdout();
-    for _ in 0..u64::MAX {
-        if !turn(&mut questions, &mut answers)? {
-            break;
-        }
-    }
-    Ok(())
+    test_ask::each(&mut rt.stdin(), &mut rt.stdout(), answer)
 }

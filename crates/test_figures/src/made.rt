@@ -3,46 +3,16 @@ use kinds::{AngleShift, Height, LocalLatitude, LocalLongitude, Wgs84Latitude, Wg
 use std::io;
 use std::io::Write;
 
-fn local<W: Write>(answers: &mut W, n: i64) -> io::Result<()> {
-    match LocalLatitude::new(n) {
-        Ok(x) => test_show::four_bytes(answers, x.ms())?,
-        Err(why) => test_show::refused(answers, why)?,
-    }
-    match LocalLongitude::new(n) {
-        Ok(x) => test_show::four_bytes(answers, x.ms()),
-        Err(why) => test_show::refused(answers, why),
-    }
-}
-
-fn wgs84<W: Write>(answers: &mut W, n: i64) -> io::Result<()> {
-    match Wgs84Latitude::new(n) {
-        Ok(x) => test_show::number(answers, x.units())?,
-        Err(why) => test_show::refused(answers, why)?,
-    }
-    match Wgs84Longitude::new(n) {
-        Ok(x) => test_show::number(answers, x.units()),
-        Err(why) => test_show::refused(answers, why),
-    }
-}
-
-// A shift and a height, and each made again of its 4 bytes.
-fn difference<W: Write>(answers: &mut W, n: i64) -> io::Result<()> {
-    match AngleShift::new(n) {
-        Ok(x) => {
-            test_show::four_bytes(answers, AngleShift::from(x.units()).units())?
-        }
-        Err(why) => test_show::refused(answers, why)?,
-    }
-    match Height::new(n) {
-        Ok(x) => test_show::four_bytes(answers, Height::from(x.mm()).mm()),
-        Err(why) => test_show::refused(answers, why),
-    }
-}
-
+// A shift and a height are made again, each of its 4 bytes.
 pub(crate) fn all<W: Write>(answers: &mut W, n: i64) -> io::Result<()> {
-    local(answers, n)?;
-    wgs84(answers, n)?;
-    difference(answers, n)
+    test_show::answer(answers, LocalLatitude::new(n).map(|x| i64::from(x.ms())))?;
+    test_show::answer(answers, LocalLongitude::new(n).map(|x| i64::from(x.ms())))?;
+    test_show::answer(answers, Wgs84Latitude::new(n).map(|x| x.units()))?;
+    test_show::answer(answers, Wgs84Longitude::new(n).map(|x| x.units()))?;
+    let again = AngleShift::new(n).map(|x| i64::from(AngleShift::from(x.units()).units()));
+    test_show::answer(answers, again)?;
+    let again = Height::new(n).map(|x| i64::from(Height::from(x.mm()).mm()));
+    test_show::answer(answers, again)
 }
 
 // A local latitude, and a longitude of the same ms, by a shift.
@@ -50,12 +20,8 @@ pub(crate) fn converted<W: Write>(answers: &mut W, ms: i64, shift: i64) -> io::R
     let Ok(by) = AngleShift::new(shift) else {
         return Ok(());
     };
-    match LocalLatitude::new(ms) {
-        Ok(x) => test_show::number(answers, x.shifted(by).units())?,
-        Err(why) => test_show::refused(answers, why)?,
-    }
-    match LocalLongitude::new(ms) {
-        Ok(x) => test_show::number(answers, x.shifted(by).units()),
-        Err(why) => test_show::refused(answers, why),
-    }
+    let north = LocalLatitude::new(ms).map(|x| x.shifted(by).units());
+    test_show::answer(answers, north)?;
+    let east = LocalLongitude::new(ms).map(|x| x.shifted(by).units());
+    test_show::answer(answers, east)
 }

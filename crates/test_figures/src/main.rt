@@ -11,10 +11,8 @@ use std::io::{Read, Write};
 
 // A number over another, from 2 to 2^62: none below or above.
 fn quotient<W: Write>(answers: &mut W, n: i64, d: u64) -> io::Result<()> {
-    if 2 <= d {
-        if d <= 4_611_686_018_427_387_904 {
-            test_show::number(answers, whole::rounded(n, d))?;
-        }
+    if (2..=4_611_686_018_427_387_904).contains(&d) {
+        test_show::number(answers, whole::rounded(n, d))?;
     }
     Ok(())
 }
@@ -82,21 +80,6 @@ fn answer<R: Read, W: Write>(questions: &mut R, answers: &mut W, letter: u8) -> 
     }
 }
 
-// Whether something was asked.
-fn turn<R: Read, W: Write>(questions: &mut R, answers: &mut W) -> io::Result<bool> {
-    let letter = test_ask::letter(questions)?;
-    answer(questions, answers, letter)?;
-    Ok(letter != 0)
-}
-
-// The count of turns is there to end: no input has so many.
 fn main(rt: HostRuntime) -> io::Result<()> {
-    let mut questions = rt.stdin();
-    let mut answers = rt.stdout();
-    for _ in 0..u64::MAX {
-        if !turn(&mut questions, &mut answers)? {
-            break;
-        }
-    }
-    Ok(())
+    test_ask::each(&mut rt.stdin(), &mut rt.stdout(), answer)
 }

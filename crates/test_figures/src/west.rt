@@ -27,9 +27,5 @@ pub(crate) fn held<W: Write>(answers: &mut W, latitude: i64, longitude: i64) -> 
         return Ok(());
     };
     let frame = FRAME;
-    if frame.holds(position) {
-        test_show::number(answers, 1)
-    } else {
-        test_show::number(answers, 0)
-    }
+    test_show::number(answers, i64::from(frame.holds(position)))
 }

@@ -23,21 +23,6 @@ fn answer<R: Read, W: Write>(questions: &mut R, answers: &mut W, letter: u8) -> 
     }
 }
 
-// Whether something was asked.
-fn turn<R: Read, W: Write>(questions: &mut R, answers: &mut W) -> io::Result<bool> {
-    let letter = test_ask::letter(questions)?;
-    answer(questions, answers, letter)?;
-    Ok(letter != 0)
-}
-
-// The count of turns is there to end: no input has so many.
 fn main(rt: HostRuntime) -> io::Result<()> {
-    let mut questions = rt.stdin();
-    let mut answers = rt.stdout();
-    for _ in 0..u64::MAX {
-        if !turn(&mut questions, &mut answers)? {
-            break;
-        }
-    }
-    Ok(())
+    test_ask::each(&mut rt.stdin(), &mut rt.stdout(), answer)
 }

@@ -74,12 +74,16 @@ pub fn digit<W: Write>(answers: &mut W, n: u8) -> io::Result<()> {
 }
 
 pub fn refused<W: Write>(answers: &mut W, why: Refusal) -> io::Result<()> {
-    refusal(answers, why.number())
+    answers.write_all(b" refused")?;
+    number(answers, i64::from(why.number()))
 }
 
-pub fn refusal<W: Write>(answers: &mut W, n: u8) -> io::Result<()> {
-    answers.write_all(b" refused")?;
-    number(answers, i64::from(n))
+// A number, or why there is none.
+pub fn answer<W: Write>(answers: &mut W, answer: Result<i64, Refusal>) -> io::Result<()> {
+    match answer {
+        Ok(n) => number(answers, n),
+        Err(why) => refused(answers, why),
+    }
 }
 
 pub fn written<W: Write>(answers: &mut W, answer: Result<usize, Refusal>) -> io::Result<()> {

@@ -2,22 +2,24 @@
 // works out what it must print from the papers.
 #![tactic(auto)]
 
+use kinds::Refusal;
 use std::io;
 use std::io::{Read, Write};
 
 // A number is printed in brackets, a refusal as its digit alone.
-fn latitude<W: Write>(answers: &mut W, text: &[u8]) -> io::Result<()> {
-    match position::read_latitude(text) {
-        Ok(x) => test_show::bracketed(answers, x.ms()),
+fn said<W: Write>(answers: &mut W, read: Result<i32, Refusal>) -> io::Result<()> {
+    match read {
+        Ok(ms) => test_show::bracketed(answers, ms),
         Err(why) => test_show::digit(answers, why.number()),
     }
 }
 
+fn latitude<W: Write>(answers: &mut W, text: &[u8]) -> io::Result<()> {
+    said(answers, position::read_latitude(text).map(|x| x.ms()))
+}
+
 fn longitude<W: Write>(answers: &mut W, text: &[u8]) -> io::Result<()> {
-    match position::read_longitude(text) {
-        Ok(x) => test_show::bracketed(answers, x.ms()),
-        Err(why) => test_show::digit(answers, why.number()),
-    }
+    said(answers, position::read_longitude(text).map(|x| x.ms()))
 }
 
 // A text, read as each.
@@ -36,29 +38,20 @@ fn read_twelve<R: Read, W: Write>(questions: &mut R, answers: &mut W) -> io::Res
     longitude(answers, &text)
 }
 
-// A number, written as each into the start of a buffer, all of which is shown.
-fn latitude_into<R: Read, W: Write>(
+// A number, written by `write` into the start of a buffer, all of which is shown.
+fn written<R: Read, W: Write, F: Fn(i64, &mut [u8]) -> Result<usize, Refusal>>(
     questions: &mut R,
     answers: &mut W,
-    out: &mut [u8],
-) -> io::Result<()> {
+    write: F,
+) -> io::Result<()>
+    requires { F.IsAlwaysCallable write }
+{
+    let mut out = [b'#'; 14];
     let ms = test_ask::number(questions)?;
-    let room = test_ask::room(questions, out)?;
-    let answer = position::write_latitude(ms, &mut out[..room]);
+    let room = test_ask::room(questions, &out)?;
+    let answer = write(ms, &mut out[..room]);
     test_show::written(answers, answer)?;
-    test_show::text(answers, out)
-}
-
-fn longitude_into<R: Read, W: Write>(
-    questions: &mut R,
-    answers: &mut W,
-    out: &mut [u8],
-) -> io::Result<()> {
-    let ms = test_ask::number(questions)?;
-    let room = test_ask::room(questions, out)?;
-    let answer = position::write_longitude(ms, &mut out[..room]);
-    test_show::written(answers, answer)?;
-    test_show::text(answers, out)
+    test_show::text(answers, &out)
 }
 
 fn answer<R: Read, W: Write>(questions: &mut R, answers: &mut W, letter: u8) -> io::Result<()> {
@@ -66,27 +59,12 @@ fn answer<R: Read, W: Write>(questions: &mut R, answers: &mut W, letter: u8) -> 
         b'=' => test_ask::label(questions, answers),
         b'r' => read(questions, answers),
         b't' => read_twelve(questions, answers),
-        b'a' => latitude_into(questions, answers, &mut [b'#'; 14]),
-        b'o' => longitude_into(questions, answers, &mut [b'#'; 14]),
+        b'a' => written(questions, answers, position::write_latitude),
+        b'o' => written(questions, answers, position::write_longitude),
         _ => Ok(()),
     }
 }
 
-// Whether something was asked.
-fn turn<R: Read, W: Write>(questions: &mut R, answers: &mut W) -> io::Result<bool> {
-    let letter = test_ask::letter(questions)?;
-    answer(questions, answers, letter)?;
-    Ok(letter != 0)
-}
-
-// The count of turns is there to end: no input has so many.
 fn main(rt: HostRuntime) -> io::Result<()> {
-    let mut questions = rt.stdin();
-    let mut answers = rt.stdout();
-    for _ in 0..u64::MAX {
-        if !turn(&mut questions, &mut answers)? {
-            break;
-        }
-    }
-    Ok(())
+    test_ask::each(&mut rt.stdin(), &mut rt.stdout(), answer)
 }

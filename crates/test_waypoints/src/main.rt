@@ -2,7 +2,7 @@
 // tests/waypoints.py asks, and works out what it must print from the papers.
 #![tactic(auto)]
 
-use kinds::{Wgs84Latitude, Wgs84Longitude, Wgs84Position};
+use kinds::{Refusal, Wgs84Latitude, Wgs84Longitude, Wgs84Position};
 use line::Form;
 use std::io;
 use std::io::{Read, Write};
@@ -19,22 +19,25 @@ fn into<R: Read, W: Write>(questions: &mut R, answers: &mut W, out: &mut [u8]) -
     test_show::text(answers, out)
 }
 
-// The element of a position in 0.00001", in a buffer that has room for any, all of which is shown; or why it is no position.
+// The element of a position in 0.00001", at the start of a buffer that has room for any.
+fn put(latitude: i64, longitude: i64, out: &mut [u8; 50]) -> Result<usize, Refusal> {
+    let north = Wgs84Latitude::new(latitude)?;
+    let east = Wgs84Longitude::new(longitude)?;
+    let position = Wgs84Position {
+        latitude: north,
+        longitude: east,
+    };
+    Ok(waypoint::element(position, out))
+}
+
+// The same, and all of the buffer; or why it is no position.
 fn element<W: Write>(answers: &mut W, latitude: i64, longitude: i64) -> io::Result<()> {
     let mut out = [b'#'; 50];
-    match Wgs84Latitude::new(latitude) {
-        Ok(north) => match Wgs84Longitude::new(longitude) {
-            Ok(east) => {
-                let position = Wgs84Position {
-                    latitude: north,
-                    longitude: east,
-                };
-                let count = waypoint::element(position, &mut out);
-                test_show::written(answers, Ok(count))?;
-                test_show::text(answers, &out)
-            }
-            Err(why) => test_show::refused(answers, why),
-        },
+    match put(latitude, longitude, &mut out) {
+        Ok(count) => {
+            test_show::written(answers, Ok(count))?;
+            test_show::text(answers, &out)
+        }
         Err(why) => test_show::refused(answers, why),
     }
 }
@@ -86,21 +89,6 @@ fn answer<R: Read, W: Write>(questions: &mut R, answers: &mut W, letter: u8) -> 
     }
 }
 
-// Whether something was asked.
-fn turn<R: Read, W: Write>(questions: &mut R, answers: &mut W) -> io::Result<bool> {
-    let letter = test_ask::letter(questions)?;
-    answer(questions, answers, letter)?;
-    Ok(letter != 0)
-}
-
-// The count of turns is there to end: no input has so many.
 fn main(rt: HostRuntime) -> io::Result<()> {
-    let mut questions = rt.stdin();
-    let mut answers = rt.stdout();
-    for _ in 0..u64::MAX {
-        if !turn(&mut questions, &mut answers)? {
-            break;
-        }
-    }
-    Ok(())
+    test_ask::each(&mut rt.stdin(), &mut rt.stdout(), answer)
 }
