@@ -97,6 +97,9 @@ module _ (t : List ℕ) where
         let e : 5 + d - 5 ≡ datums t = omega (arith, is-d) in
         ap (λ (n : ℕ). take n (drop 5 t)) e
 
+    pub rise_is : {r : Bool} → r ≡ rise 0 (take (5 + d - 5) (drop 5 t)) → r ≡ rise 0 (codes t)
+    rise_is e = e ∙ ap (rise 0) codes_are
+
     module _ (few : d ≤ 6) where
       two : leb (datums t) 6 ≡ true
       two = le-leb (datums t) 6 (omega (arith, few, is-d))

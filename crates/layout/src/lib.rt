@@ -52,6 +52,7 @@ pub fn read(unit: i64, sheet: &[u8]) -> Result<Layout, Refusal>
     laid_out(sheet)
 }
 
+#[tactic(auto, using(crate::proofs::Reading::datums_is, crate::proofs::Reading::count_is, crate::proofs::Reading::datums_cut, crate::proofs::Reading::datums_over, crate::proofs::Reading::rise_is, crate::proofs::Reading::codes_cut, crate::proofs::Reading::codes_wrong, crate::proofs::Reading::count_cut, crate::proofs::Reading::count_over, crate::proofs::Reading::wrong_length, crate::proofs::Reading::all_there))]
 fn laid_out(sheet: &[u8]) -> Result<Layout, Refusal>
     ensures { layout_answer result ≡ laid_out sheet.now }
 {
@@ -84,6 +85,7 @@ fn laid_out(sheet: &[u8]) -> Result<Layout, Refusal>
 }
 
 // Whether each code is above the one before, from 1 to 6: where they rise, the last is the largest.
+#[tactic(auto, using(crate::proofs::Codes::rise_stops, crate::proofs::Codes::rise_goes, crate::proofs::Codes::rise_ends))]
 fn rise(codes: &[u8]) -> bool
     ensures { result ≡ rise 0 codes.now }
 {

@@ -32,6 +32,7 @@ const START: usize = layout::SERIAL + layout::COUNT;
 const RECORD: usize = 13;
 
 // By code, whatever the byte, whether it is listed.
+#[tactic(auto, using(crate::proofs::Codes::none_flagged, crate::proofs::Codes::flag_next))]
 fn listed(codes: &[u8]) -> [bool; 256]
     ensures { result ≡ flags codes.now }
 {
@@ -102,6 +103,7 @@ fn put(serial: &[u8], count: &[u8], points: &[[u8; layout::POINT]], res: &mut [u
 }
 
 // The rest of the work on a sheet that passed the tests of `read`.
+#[tactic(auto, using(layout::proofs::Reading::laid, crate::proofs::Calls::codes_end, crate::proofs::Calls::body_start, crate::proofs::Calls::five_more, crate::proofs::Calls::seven_more, crate::proofs::Calls::records_fit, crate::proofs::Calls::result_fits, crate::proofs::Calls::points_fit, crate::proofs::Calls::serial_lent))]
 fn finished(layout: Layout, sheet: &[u8], res: &mut [u8]) -> Result<usize, Refusal>
     requires { laid_out sheet.now ≡ gives layout }
     ensures result_value { written result ≡ counted (finished sheet.now (length res.old)) }
