@@ -81,6 +81,7 @@ fn point_record(point: &[u8; layout::POINT]) -> [u8; RECORD]
 }
 
 // The records of all points, at the start of out.
+#[tactic(auto, using(crate::proofs::Results::no_records, crate::proofs::Results::copied, crate::proofs::Results::turn, crate::proofs::Results::turn_long))]
 fn records(points: &[[u8; layout::POINT]], out: &mut [u8])
     requires { length points.now * record_length ≤ length out.old }
     ensures { out.new ≡ records points.now ++ drop (length points.now * record_length) out.old }
