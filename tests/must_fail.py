@@ -177,24 +177,24 @@ def tries(found, at_once):
 def self_test(at_once):
     """Crate `whole` with wrong programs, of which none is found out; and with what shows nothing, each of which is: a right program in
     the place of a slip; a slip that does not compile; one after which a proof file names what is not there; one whose function fails
-    only because another that it calls does; a definition whose law stands. And its six functions, none of which has two slips here, are found out."""
+    only because another that it calls does; a definition whose law stands. And its four functions, none of which has two slips here, are found out."""
     def slip(name, old, new, place='src/lib.rt', breaks=()):
         return slips.Slip('whole', 'test', name, 'of the test', list(breaks), [(place, old, new)])
 
-    size, law = ('(-(x + 1)) as u64 + 1', '(-(x + 1)) as u64 + 0'), ('round_half_up n d = (2 * n + d)', 'round_half_up n d = (2 * n + 0)')
-    good = [slip('size', *size), slip('answered', 'q * u + nearest', 'r * u + nearest'),
+    half, law = ('    (n + d / 2) / d', '    (n + d / 3) / d'), ('round_half_up n d = (2 * n + d)', 'round_half_up n d = (2 * n + 0)')
+    good = [slip('half', *half), slip('answered', 'q * u + nearest', 'r * u + nearest'),
             slip('law', *law, 'specs/Round.antt', ['examples.five_halves'])]
-    bad = [slip('right', 'if a < b { a } else { b }', 'if a <= b { a } else { b }'), slip('text', 'q * u + nearest', 'q * w + nearest'),
-           slip('name', 'q * u + nearest(r * u, Parts::DIVISOR)', 'q * u + (r * u + Parts::DIVISOR / 2) / Parts::DIVISOR'),
+    bad = [slip('right', 'if below { -x } else { x }', 'if !below { x } else { -x }'), slip('text', 'q * u + nearest', 'q * w + nearest'),
+           slip('name', 'nearest(size, d) as i64', '((size + d / 2) / d) as i64'),
            slip('other-law', *law, 'specs/Round.antt', ['same_below_zero'])]
     seen = [re.search(r'whole/test: ([\w-]+)', line)[1] for line in tries(good + bad, at_once)]
     with tempfile.TemporaryDirectory() as seeds, tempfile.TemporaryDirectory() as room:
         said = first(room, (seeds, 'whole')) or tried(room, (seeds, good[0]))
         log = checked(room, 'whole', '--jobs', '1')
-        follows = not said and log.functions == {'size'} and bool(refused(log, good[0], {'rounded'}))
+        follows = not said and log.functions == {'nearest'} and bool(refused(log, good[0], {'rounded'}))
     few = [name for _, name, own in table(good, ['whole']) if len(own) < FEWEST]
     print(f'found out: {", ".join(seen)}{", caller" if follows else ""}; too few slips: {", ".join(few)}')
-    return seen == [slip.name for slip in bad] and follows and sorted(few) == ['least', 'nearest', 'rounded', 'scaled', 'size', 'with_sign']
+    return seen == [slip.name for slip in bad] and follows and sorted(few) == ['nearest', 'rounded', 'scaled', 'with_sign']
 
 
 def main():
