@@ -21,7 +21,6 @@ import pages
 import program
 import sheets
 import waypoints
-from check_page import squeezed
 from program import content
 
 HEADER = 'include/buckettin.h'
@@ -56,6 +55,11 @@ def exported(source):
     """The declarations that the source asks for."""
     functions = re.findall(r'#\[unsafe\(no_mangle\)\]\npub extern "C" fn (\w+)\(([^)]*)\) -> (\w+)', source)
     return [f'{WIDTHS.get(answer) or in_c(answer)} {name}({parameters(given)});' for name, given, answer in functions]
+
+
+def squeezed(source):
+    """Without its layout: spaces, and the comma after the last of several lines of parameters."""
+    return re.sub(r'\s', '', source).replace(',)', ')')
 
 
 def functions(source):

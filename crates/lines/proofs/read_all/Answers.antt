@@ -23,8 +23,8 @@ overflow_add-handed g c = omega (arith, few (more c.loop-turn.invariant.answered
 pub overflow_add-result : goal.overflow_add-result
 overflow_add-result g c = omega (arith, few (more c.loop-turn.invariant.answered c.in_ok-turn.ensures.answered.1) (omega arith), c.in_ok-last.ensures.in_bounds)
 
-pub returns-then-least-eq0-clause-ended : goal.returns-then-least-eq0-clause-ended
-returns-then-least-eq0-clause-ended g c =
+pub returns-then-min-eq0-clause-ended : goal.returns-then-min-eq0-clause-ended
+returns-then-min-eq0-clause-ended g c =
     let i = c.loop-turn.invariant in
     let a = more i.answered c.in_ok-turn.ensures.answered.1 in
     record {
@@ -34,8 +34,8 @@ returns-then-least-eq0-clause-ended g c =
       all = whole _ _ a c.in_ok-last.ensures.value;
     }
 
-pub returns-then-least-eq0-clause-written : goal.returns-then-least-eq0-clause-written
-returns-then-least-eq0-clause-written g c =
+pub returns-then-min-eq0-clause-written : goal.returns-then-min-eq0-clause-written
+returns-then-min-eq0-clause-written g c =
     let i = c.loop-turn.invariant in
     let t = c.in_ok-turn.ensures in
     let a = more i.answered t.answered.1 in
