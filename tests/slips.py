@@ -79,7 +79,7 @@ def apply(slip, root, below=''):
 
 # ---- the functions and constants of a source, in the layout that rt fmt gives it
 OPENS = re.compile(
-    r'^(?P<in>(?:    )?)(?:pub(?:\(crate\))? )?(?:extern "C" )?(?P<kind>fn|const|impl(?:<.*?>)?) (?:(?:\w+::)*(?P<trait>\w+)(?:<.*>)? for )?'
+    r'^(?P<in>(?:    )?)(?:pub(?:\(crate\))? )?(?:extern "C" )?(?P<kind>fn|const|impl(?:<.*?>)?) (?:(?:\w+::)*(?P<trait>\w+)(?:<(?P<of>.*)>)? for )?'
     r'(?P<name>\w+)', re.M)
 
 
@@ -91,7 +91,8 @@ def items(text, place):
     owner, until = None, 0
     for m in OPENS.finditer(text):
         if m['kind'].startswith('impl'):
-            owner, until = m['name'] + (m['trait'] or ''), text.index('\n}', m.end())
+            words = re.findall(r'\w+', m['of'] or '')
+            owner, until = m['name'] + (m['trait'] or '') + ''.join(w[0].upper() + w[1:] for w in words), text.index('\n}', m.end())
             continue
         name = '::'.join(around + ([owner] if m.start() < until else []) + [m['name']])
         if m['kind'] == 'const':

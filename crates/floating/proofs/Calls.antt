@@ -1,12 +1,12 @@
--- The floats of the code's constants, what dividing by such a constant gives, and calls on a point. Assumes nothing.
+-- The floats of the code's constants, and what dividing by such a constant gives. Assumes nothing.
 use mathlib.Core.Path.{◌≡◌, refl, ap, ◌∙◌}
 use Prim.Native.Nat.{ℕ}
 use lib.IntN.{ℤ, pos}
-use lib.Ieee.{Float, nan, binary64, div, of_bits, of_int, round}
-use mir.Syntax.{w32, w64}
+use lib.Ieee.{Float, binary64, div, of_bits, of_int, round}
+use mir.Syntax.{w32}
 use mir.Val.{SFits, to_z, of_z}
 use Rattle.whole.proofs.Words.{of}
-use Rattle.floating.specs.Floats.{◌divided_by◌, per_second, per_metre, floating_of, float_zero}
+use Rattle.floating.specs.Floats.{◌divided_by◌, per_second, per_metre, float_zero}
 
 -- units in a second, mm in a metre, and 0
 pub per_second_lem : of_bits binary64 0x40F8_6A00_0000_0000 ≡ of_int binary64 (pos per_second)

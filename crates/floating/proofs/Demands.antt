@@ -9,12 +9,10 @@ use lib.Dec.{T, lit<, lit≤}
 use lib.IntN.{ℤ, pos, neg_ℤ}
 use lib.Ieee.{Float, binary64, div, of_bits, of_int, round}
 use Rattle.whole.specs.Round.{round_div}
-use Rattle.std.specs.Prelude.{Result}
+use Rattle.kinds.specs.Answer as Said
 use Rattle.kinds.specs.Answer.{gives, refused, refusal_of}
 use Rattle.kinds.specs.Kinds.{is_four_bytes}
-use Rattle.kinds.specs.declared.Refusal.{Refusal}
 use Rattle.kinds.proofs.Answers.{told}
-use Rattle.kinds.proofs.Answers as kinds
 use Rattle.equation.specs.Powers.{power, powers_of}
 use Rattle.equation.specs.Equation.{sum}
 use Rattle.equation.specs.Exact.{◌over◌, whole, Within}
@@ -25,11 +23,11 @@ use Rattle.datum.specs.Exact.{exact, demanded, bounds_of}
 use Rattle.datum.proofs.Errors.{no_narrower, same_demand, row_float_demanded}
 use Rattle.datum.proofs.Demands as datum
 use Rattle.floating.specs.Floats.{per_second, per_metre, seconds, metres, in_floats, answer_in_floats, floating_of, float_zero}
-use Rattle.floating.specs.Cases.{floats_say, given_floats_say, float_answer}
+use Rattle.floating.specs.Cases.{floats_say, float_answer}
 use Rattle.floating.specs.Value.{value_of, in_units, FloatsWithin}
 use Rattle.floating.specs.declared.ShiftFloats.{ShiftFloats}
-use Rattle.floating.specs.declared.GivenFloats.{GivenFloats}
-use Rattle.floating.specs.declared.GivenFloats.TheVariants.{Shift, Geoid}
+use Rattle.floating.specs.declared.Answer.{Answer}
+use Rattle.floating.specs.declared.Answer.TheVariants.{Shift, Geoid, Refused}
 use Rattle.floating.proofs.Calls.{per_second_lem, per_metre_lem, no_value}
 use Rattle.floating.proofs.Quotients.{whole_exact, quotient_near}
 use Rattle.floating.proofs.Answers as answers
@@ -191,13 +189,15 @@ floats_determined a b h = ap rebuilt h
     rebuilt (shift x y z) = record { latitude = x; longitude = y; height = z }
     rebuilt (geoid n) = a
 
-pub determined : (a b : Result GivenFloats Refusal) → float_answer a ≡ float_answer b → a ≡ b
-determined = kinds.determined given_floats_say made back
+pub determined : (a b : Answer) → float_answer a ≡ float_answer b → a ≡ b
+determined a b h = sym (back a) ∙ ap rebuilt h ∙ back b
   where
-    made : Family Float → GivenFloats
-    made (shift x y z) = Shift (record { latitude = x; longitude = y; height = z })
-    made (geoid n) = Geoid n
+    rebuilt : Said.Answer (Family Float) → Answer
+    rebuilt (gives (shift x y z)) = Shift (record { latitude = x; longitude = y; height = z })
+    rebuilt (gives (geoid n)) = Geoid n
+    rebuilt (refused n) = Refused n
 
-    back : (g : GivenFloats) → made (given_floats_say g) ≡ g
+    back : (e : Answer) → rebuilt (float_answer e) ≡ e
     back (Shift s) = refl
     back (Geoid n) = refl
+    back (Refused n) = refl

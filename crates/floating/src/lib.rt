@@ -9,7 +9,7 @@ ghost use Rattle.floating.specs.Floats.{seconds, metres, in_floats, floating_of,
 ghost use Rattle.floating.specs.Cases.{floats_say, float_answer};
 
 use datum::{Given, Shifts};
-use kinds::{AngleShift, Height, Refusal};
+use kinds::{AngleShift, Height};
 
 // The shifts of a point: of latitude and longitude in seconds, of height in metres.
 #[derive(Clone, Copy)]
@@ -19,23 +19,25 @@ pub struct ShiftFloats {
     pub height: f64,
 }
 
-// What a datum of either family gives for a point: its shifts, or its geoid height in metres.
+// The answer of a datum of either family: its shifts, its geoid height in metres, or the number of the refusal. No `Result`:
+// document 01 names this form.
 #[derive(Clone, Copy)]
-pub enum GivenFloats {
+pub enum Answer {
     Shift(ShiftFloats),
     Geoid(f64),
+    Refused(u8),
 }
 
 // The shifts of the point or its geoid height, whichever its datum has. Refused, in this order, with 4 where there is no such
 // code, 3 where a coordinate is out of range, 6 outside the datum's area; never with 5.
 // floating(1, 126_000_000, 118_800_000), the centre of code 1, gives the floats nearest to -3.84288, -1.10294 and 24.43.
-pub fn floating(code: i64, latitude: i64, longitude: i64) -> Result<GivenFloats, Refusal>
+pub fn floating(code: i64, latitude: i64, longitude: i64) -> Answer
     ensures { float_answer result ≡ floating_of code latitude longitude }
 {
-    let given = datum::answer(code, latitude, longitude)?;
-    match given {
-        Given::Shift(shifts) => Ok(GivenFloats::Shift(ShiftFloats::of(shifts))),
-        Given::Geoid(height) => Ok(GivenFloats::Geoid(metres(height))),
+    match datum::answer(code, latitude, longitude) {
+        Ok(Given::Shift(shifts)) => Answer::Shift(ShiftFloats::of(shifts)),
+        Ok(Given::Geoid(height)) => Answer::Geoid(metres(height)),
+        Err(why) => Answer::Refused(why.number()),
     }
 }
 
@@ -43,21 +45,21 @@ pub fn floating(code: i64, latitude: i64, longitude: i64) -> Result<GivenFloats,
 pub fn first(code: i64, latitude: i64, longitude: i64) -> f64
     ensures { result ≡ first_of float_zero (floating_of code latitude longitude) }
 {
-    three(floating(code, latitude, longitude))[0]
+    floating(code, latitude, longitude).values()[0]
 }
 
 // dLon in seconds; 0 of a geoid datum, and where the point is refused.
 pub fn second(code: i64, latitude: i64, longitude: i64) -> f64
     ensures { result ≡ second_of float_zero (floating_of code latitude longitude) }
 {
-    three(floating(code, latitude, longitude))[1]
+    floating(code, latitude, longitude).values()[1]
 }
 
 // dH in metres; 0 of a geoid datum, and where the point is refused.
 pub fn third(code: i64, latitude: i64, longitude: i64) -> f64
     ensures { result ≡ third_of float_zero (floating_of code latitude longitude) }
 {
-    three(floating(code, latitude, longitude))[2]
+    floating(code, latitude, longitude).values()[2]
 }
 
 // The number of the point's refusal, or 0 where it is answered.
@@ -65,19 +67,22 @@ pub fn refusal(code: i64, latitude: i64, longitude: i64) -> u8
     ensures { result ≡ refusal_of (floating_of code latitude longitude) }
 {
     match floating(code, latitude, longitude) {
-        Ok(_) => 0,
-        Err(why) => why.number(),
+        Answer::Shift(_) => 0,
+        Answer::Geoid(_) => 0,
+        Answer::Refused(number) => number,
     }
 }
 
-// dLat, dLon and dH; or N and two zeros; or three zeros where the point is refused.
-fn three(given: Result<GivenFloats, Refusal>) -> [f64; 3]
-    ensures { result ≡ values_of float_zero (float_answer given) }
-{
-    match given {
-        Ok(GivenFloats::Shift(shift)) => [shift.latitude, shift.longitude, shift.height],
-        Ok(GivenFloats::Geoid(height)) => [height, 0.0, 0.0],
-        Err(_) => [0.0, 0.0, 0.0],
+impl Answer {
+    // dLat, dLon and dH; or N and two zeros; or three zeros where the point is refused.
+    fn values(self) -> [f64; 3]
+        ensures { result ≡ values_of float_zero (float_answer self) }
+    {
+        match self {
+            Answer::Shift(shift) => [shift.latitude, shift.longitude, shift.height],
+            Answer::Geoid(height) => [height, 0.0, 0.0],
+            Answer::Refused(_) => [0.0, 0.0, 0.0],
+        }
     }
 }
 

@@ -1,6 +1,6 @@
 // The answers as floats, by their bits in hexadecimal.
 use datum::Shifts;
-use floating::{GivenFloats, ShiftFloats};
+use floating::{Answer, ShiftFloats};
 use kinds::{AngleShift, Height};
 use std::io;
 use std::io::Write;
@@ -16,9 +16,9 @@ pub(crate) fn either<W: Write>(
     longitude: i64,
 ) -> io::Result<()> {
     match floating::floating(code, latitude, longitude) {
-        Ok(GivenFloats::Shift(shift)) => shifted(answers, shift),
-        Ok(GivenFloats::Geoid(height)) => test_show::float(answers, height),
-        Err(why) => test_show::refused(answers, why),
+        Answer::Shift(shift) => shifted(answers, shift),
+        Answer::Geoid(height) => test_show::float(answers, height),
+        Answer::Refused(number) => test_show::refusal(answers, number),
     }
 }
 

@@ -74,8 +74,13 @@ pub fn digit<W: Write>(answers: &mut W, n: u8) -> io::Result<()> {
 }
 
 pub fn refused<W: Write>(answers: &mut W, why: Refusal) -> io::Result<()> {
+    refusal(answers, why.number())
+}
+
+// By its number, which is all that the floating answer has.
+pub fn refusal<W: Write>(answers: &mut W, n: u8) -> io::Result<()> {
     answers.write_all(b" refused")?;
-    number(answers, i64::from(why.number()))
+    number(answers, i64::from(n))
 }
 
 // A number, or why there is none.
