@@ -199,7 +199,7 @@ fn angle(t: &[u8]) -> u64
 
 // S is below zero, and not zero.
 fn southern(ms: u64) -> Result<LocalLatitude, Refusal>
-    requires { ms < 400_000_000 }
+    requires { ms ≤ 1_296_000_000 }
     ensures { local_latitude result ≡ provided (not (ms == 0)) 3 (tested (is_latitude (neg_ℤ (pos ms))) (neg_ℤ (pos ms))) }
 {
     if ms == 0 {
