@@ -124,8 +124,8 @@ def placed(code, text):
     """Each table stands under its own name, in the definition's page and in the code's call."""
     bounds(code)               # ends where the definition has it otherwise
     tables = ', '.join(f'&{TABLES[name]}' for name, *_ in document_000.equations(code))
-    body, = only(r'pub\(crate\) fn values\(.*\n(?: .*\n)*\{\n((?: .*\n)*)\}', text, f'code {code}: values')
-    if body.strip() != f'{family_of(code)}_values(place, {tables})':
+    body, = only(rf'pub\(crate\) fn {family_of(code)}\(.*\n(?: .*\n)*\{{\n((?: .*\n)*)\}}', text, f'code {code}: {family_of(code)}')
+    if body.strip() != f'{family_of(code)}_at(place, {tables})':
         wrong.append(f'code {code}: a table stands for another in the code')
 
 

@@ -1,5 +1,5 @@
 -- What a call says of a code, by the page that the code has. Assumes nothing.
-use mathlib.Core.Path.{◌≡◌, refl, sym, ap, ◌∙◌}
+use mathlib.Core.Path.{◌≡◌, refl, sym, ap, ◌∙◌, subst}
 use mathlib.Core.Bool.{Bool, true, false}
 use lib.IntN.{ℤ}
 use mir.Syntax.{w64}
@@ -11,6 +11,13 @@ use Rattle.kinds.specs.Kinds.{is_position}
 use Rattle.tables.specs.Page.{Page, Equation, Family, shift, geoid, is_shift, of_each}
 use Rattle.tables.specs.Rule.{in_area, worked}
 use Rattle.datum.specs.Point.{is_code, page_of, point_of, asked}
+use Rattle.tables.specs.Inside.{family_of, frame_of}
+use Rattle.tables.specs.declared.Family as code
+use Rattle.tables.specs.declared.Family.TheVariants as Gives
+use Rattle.tables.specs.declared.Frame.{Frame}
+use Rattle.tables.specs.contracts.Family.{the_type}
+use denote.Enum.Bare.{sameb}
+use Rattle.datum.specs.Inside.{coded_as, is_of}
 
 abbrev code_page : ℤ → Answer Page
 code_page code = provided (is_code code) 4 (gives (page_of code))
@@ -59,3 +66,44 @@ worked_shift f (geoid n) = refl
 pub positioned : (call : ℤ → ℤ → Answer (ℤ × ℤ)) {latitude longitude : ℤ} → SFits w64 latitude → SFits w64 longitude → {a : Answer (ℤ × ℤ)}
     → a ≡ call (to_z w64 (of_z w64 latitude)) (to_z w64 (of_z w64 longitude)) → call latitude longitude ≡ a
 positioned call b l e = sym (e ∙ (λ i. call ((of b).reads i) ((of l).reads i)))
+
+-- ---- the family
+-- what a call that asks of a family told of the code
+pub told : (family : Family Equation → Bool) {code : ℤ} {page : Page} → SFits w64 code → gives page ≡ coded_as family (to_z w64 (of_z w64 code))
+    → (family page.equations ≡ true) × (code_page code ≡ gives page)
+told family {code} {page} f e =
+    let p = passed (is_code code) 4 (provided (family (page_of code).equations) 5 (gives (page_of code))) (ap (coded_as family) (sym (of f).reads) ∙ sym e) in
+    let q = passed (family (page_of code).equations) 5 (gives (page_of code)) p.1 in
+    (subst (λ (x : Page). family x.equations ≡ true) (same_value q.1) q.0, (λ i. provided (p.0 i) 4 (gives (page_of code))) ∙ q.1)
+
+-- whether the datum of a page is of a family, as its frame tells
+pub is_family : (family : code.Family) (page : Page) {frame : Frame} → frame ≡ frame_of page → sameb the_type frame.family family ≡ is_of family page.equations
+is_family family page framed = ap (λ (f : Frame). sameb the_type f.family family) framed ∙ go family page.equations
+  where
+    go : (family : code.Family) (e : Family Equation) → sameb the_type (family_of e) family ≡ is_of family e
+    go Gives.Shift (shift a b c) = refl
+    go Gives.Shift (geoid n) = refl
+    go Gives.Geoid (shift a b c) = refl
+    go Gives.Geoid (geoid n) = refl
+
+pub of_frame : (page : Page) {frame : Frame} {family : code.Family} → frame ≡ frame_of page → frame.family ≡ family → is_of family page.equations ≡ true
+of_frame page framed e = sym (is_family _ page framed) ∙ same _ e
+  where
+    same : {f : code.Family} (g : code.Family) → f ≡ g → sameb the_type f g ≡ true
+    same Gives.Shift e = ap (λ (x : code.Family). sameb the_type x Gives.Shift) e
+    same Gives.Geoid e = ap (λ (x : code.Family). sameb the_type x Gives.Geoid) e
+
+-- the page of the code, by its family
+pub of_the_family : (family : Family Equation → Bool) (code : ℤ) {page : Page} → family page.equations ≡ true → code_page code ≡ gives page → gives page ≡ coded_as family code
+of_the_family family code {page} h e =
+    let p = passed (is_code code) 4 (gives (page_of code)) e in
+    (λ i. provided (sym h i) 5 (gives page))
+    ∙ ap (λ (x : Page). provided (family x.equations) 5 (gives x)) (sym (same_value p.1))
+    ∙ (λ i. provided (sym p.0 i) 4 (provided (family (page_of code).equations) 5 (gives (page_of code))))
+
+pub of_the_other : (family : Family Equation → Bool) (code : ℤ) {page : Page} → family page.equations ≡ false → code_page code ≡ gives page → refused 5 ≡ coded_as family code
+of_the_other family code {page} h e =
+    let p = passed (is_code code) 4 (gives (page_of code)) e in
+    (λ i. provided (sym h i) 5 (gives page))
+    ∙ ap (λ (x : Page). provided (family x.equations) 5 (gives x)) (sym (same_value p.1))
+    ∙ (λ i. provided (sym p.0 i) 4 (provided (family (page_of code).equations) 5 (gives (page_of code))))

@@ -27,7 +27,6 @@ use Rattle.datum.specs.Exact.{exact, at_centre, AllWithin, demanded, bounds_of}
 use Rattle.datum.specs.Cases.{shift_says, geoid_says, given_says, shift_answer, geoid_answer, point_answer}
 use Rattle.datum.specs.declared.Shifts.{Shifts}
 use Rattle.datum.specs.declared.Given.{Given}
-use Rattle.datum.specs.declared.Given.TheVariants as Given
 use Rattle.datum.proofs.Codes.{not_shift, not_geoid}
 use Rattle.datum.proofs.Points.{fit}
 use Rattle.datum.proofs.Converted as moved

@@ -1,4 +1,4 @@
--- A point's answer by its page: what the tests say of it, and where a shift leads. Assumes nothing.
+-- A point's answer by its page: what the tests say of it, what three numbers say, and where a shift leads. Assumes nothing.
 use mathlib.Core.Path.{◌≡◌, sym, ap, ◌∙◌, subst}
 use mathlib.Core.Bool.{Bool, true, false, ◌&&◌}
 use Prim.Native.Nat.{ℕ}

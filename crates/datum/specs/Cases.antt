@@ -7,7 +7,6 @@ use Rattle.kinds.specs.declared.Height.{Height}
 use Rattle.tables.specs.Page.{Family, shift, geoid}
 use Rattle.datum.specs.declared.Shifts.{Shifts}
 use Rattle.datum.specs.declared.Given.{Given}
-use Rattle.datum.specs.declared.Given.TheVariants as Given
 
 -- ---- the values
 abbrev pub shift_says : Shifts → Family ℤ

@@ -6,12 +6,12 @@ ghost use Rattle.kinds.specs.Answer.{gives, provided};
 ghost use Rattle.kinds.specs.Cases.{local_position, wgs84_position};
 ghost use Rattle.tables.specs.Page.{shift};
 ghost use Rattle.tables.specs.Inside.{datum_page};
-ghost use Rattle.datum.specs.Point.{is_code, page_of, asked, answer_of, shift_of, geoid_of, converted_of};
+ghost use Rattle.datum.specs.Point.{is_code, page_of, answer_of, shift_of, geoid_of, converted_of};
 ghost use Rattle.datum.specs.Cases.{shift_says, shift_answer, geoid_answer, point_answer};
-ghost use Rattle.datum.specs.Inside.{datum_answer, located, shifted_by, values_answer, is_of};
+ghost use Rattle.datum.specs.Inside.{datum_answer, coded_as, located, shifted_by, is_of};
 
 use kinds::{AngleShift, Height, LocalPosition, Refusal, Wgs84Position};
-use tables::{Datum, Family, Values};
+use tables::{Datum, Family, Shift};
 
 // The shifts of a point from its local datum to WGS 84.
 #[derive(Clone, Copy)]
@@ -23,13 +23,13 @@ pub struct Shifts {
 
 impl Shifts {
     // Three numbers, each as the kind that it is.
-    fn of(latitude: i32, longitude: i32, height: i32) -> Shifts
-        ensures { shift_says result ≡ shift latitude longitude height }
+    fn of(by: Shift) -> Shifts
+        ensures { shift_says result ≡ shift by.latitude by.longitude by.height }
     {
         Shifts {
-            latitude: AngleShift::from(latitude),
-            longitude: AngleShift::from(longitude),
-            height: Height::from(height),
+            latitude: AngleShift::from(by.latitude),
+            longitude: AngleShift::from(by.longitude),
+            height: Height::from(by.height),
         }
     }
 }
@@ -47,15 +47,9 @@ pub enum Given {
 pub fn shift(code: i64, latitude: i64, longitude: i64) -> Result<Shifts, Refusal>
     ensures { shift_answer result ≡ shift_of code latitude longitude }
 {
-    let values = asked(Family::Shift, code, latitude, longitude)?;
-    match values {
-        Values::Shift {
-            latitude,
-            longitude,
-            height,
-        } => Ok(Shifts::of(latitude, longitude, height)),
-        Values::Geoid(_) => unreachable!(),
-    }
+    let datum = coded_as(Family::Shift, code)?;
+    let position = located(datum, latitude, longitude)?;
+    Ok(Shifts::of(datum.shift(position)))
 }
 
 // The geoid height of a point of codes 5 and 6, likewise; refused with 5 of a shift datum.
@@ -63,11 +57,9 @@ pub fn shift(code: i64, latitude: i64, longitude: i64) -> Result<Shifts, Refusal
 pub fn geoid(code: i64, latitude: i64, longitude: i64) -> Result<Height, Refusal>
     ensures { geoid_answer result ≡ geoid_of code latitude longitude }
 {
-    let values = asked(Family::Geoid, code, latitude, longitude)?;
-    match values {
-        Values::Geoid(height) => Ok(Height::from(height)),
-        Values::Shift { .. } => unreachable!(),
-    }
+    let datum = coded_as(Family::Geoid, code)?;
+    let position = located(datum, latitude, longitude)?;
+    Ok(Height::from(datum.geoid(position)))
 }
 
 // The WGS 84 position of a point of codes 1 to 4, by its shift, and refused as that is.
@@ -85,13 +77,10 @@ pub fn answer(code: i64, latitude: i64, longitude: i64) -> Result<Given, Refusal
 {
     let either = coded(code)?;
     let position = located(either, latitude, longitude)?;
-    match either.values(position) {
-        Values::Shift {
-            latitude,
-            longitude,
-            height,
-        } => Ok(Given::Shift(Shifts::of(latitude, longitude, height))),
-        Values::Geoid(height) => Ok(Given::Geoid(Height::from(height))),
+    let frame = either.frame();
+    match frame.family {
+        Family::Shift => Ok(Given::Shift(Shifts::of(either.shift(position)))),
+        Family::Geoid => Ok(Given::Geoid(Height::from(either.geoid(position)))),
     }
 }
 
@@ -103,17 +92,17 @@ fn shifted(latitude: i64, longitude: i64, shifts: Shifts) -> Result<Wgs84Positio
     Ok(position.shifted(shifts.latitude, shifts.longitude))
 }
 
-// What the datum of a code gives for a point, where it is of the family that is asked.
-fn asked(family: Family, code: i64, latitude: i64, longitude: i64) -> Result<Values, Refusal>
-    ensures { values_answer result ≡ asked (is_of family) code latitude longitude }
+// The datum of a code, where it is of the family that is asked for.
+fn coded_as(family: Family, code: i64) -> Result<Datum, Refusal>
+    ensures { datum_answer result ≡ coded_as (is_of family) code }
 {
     let datum = coded(code)?;
     let frame = datum.frame();
-    if frame.family != family {
-        return Err(Refusal::Family);
+    if frame.family == family {
+        Ok(datum)
+    } else {
+        Err(Refusal::Family)
     }
-    let position = located(datum, latitude, longitude)?;
-    Ok(datum.values(position))
 }
 
 // The one place where a code is tested. By a match, so that no table is laid on the stack, and a call that is refused saves no

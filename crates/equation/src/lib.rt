@@ -86,6 +86,7 @@ fn class_sums(table: &[Term], powers: Powers) -> [i64; 4]
     let mut from = 0;
     while from < table.len() {
         let to = table.len().min(from + 8);
+        // the toolchain checks no call whose result is laid straight into an array that is there
         let more = added(sums, table, powers, from, to);
         sums = more;
         from = to;

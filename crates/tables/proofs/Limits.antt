@@ -21,7 +21,7 @@ use Rattle.tables.specs.Page.{Page, Axis, Equation, each}
 use Rattle.tables.specs.Cyprus.{cyprus}
 use Rattle.tables.specs.Rule.{longitude_on, in_box, along}
 use Rattle.tables.specs.Tables.{pages}
-use Rattle.tables.specs.Inside.{axis_of, on_axis, equation_at, Fits, AllFit, Small}
+use Rattle.tables.specs.Inside.{axis_of, on_axis, equation_at, Fits, AllFit, Small, Close}
 use Rattle.tables.proofs.Families.{each_by}
 use Rattle.tables.proofs.Reach.{most}
 pub use Rattle.tables.proofs.Reach.{most_u, most_v}
@@ -60,6 +60,9 @@ module _ (axis : Axis) (h : T (axis_keeps axis)) where
   degree : axis.divisor ≡ 3600000
   degree = eqb→eq axis.divisor 3600000 tests.0
 
+  near : Close (axis_of axis)
+  near = record { factor = leb→le axis.factor 1000000000 tests.1; offset = leb→le (nat_abs axis.offset) 1000000000000000000 tests.2 }
+
   as_coded : (x : ℤ) → on_axis (axis_of axis) x ≡ along axis x
   as_coded x = ap (round_div _) (sym degree)
 
@@ -75,6 +78,9 @@ module _ (axis : Axis) (h : T (axis_keeps axis)) where
 module _ (page : Page) (h : T (page_keeps page)) where
   parts : T (axis_keeps page.u) × T (axis_keeps page.v) × T (sizes_keep page)
   parts = three (axis_keeps page.u) (axis_keeps page.v) (sizes_keep page) h
+
+  pub close : Close (axis_of page.u) × Close (axis_of page.v)
+  close = (near page.u parts.0, near page.v parts.1)
 
   pub u_coded : (x : ℤ) → on_axis (axis_of page.u) x ≡ along page.u x
   u_coded = as_coded page.u parts.0

@@ -1,4 +1,4 @@
--- The code's own datums, frames and values, and what its functions ask of who calls them. No promise of an entry point speaks
+-- The code's own datums, frames and shifts, and what its functions ask of who calls them. No promise of an entry point speaks
 -- of it.
 use Rattle.std.specs.Prelude.{List, ℕ, ◌≤◌, ℤ, pos, nat_abs, ◌-ℤ◌, ◌*ℤ◌, get_or}
 use Rattle.std.specs.Int.{w32}
@@ -20,8 +20,7 @@ use Rattle.tables.specs.declared.Axis.{Axis}
 use Rattle.tables.specs.declared.Frame.{Frame}
 use Rattle.tables.specs.declared.Family as code
 use Rattle.tables.specs.declared.Family.TheVariants as Gives
-use Rattle.tables.specs.declared.Values.{Values}
-use Rattle.tables.specs.declared.Values.TheVariants as Have
+use Rattle.tables.specs.declared.Shift.{Shift}
 
 -- ---- the code's datums: the row of each in a list by codes, and its page
 abbrev pub row_of : Datum → ℕ
@@ -59,10 +58,9 @@ frame_of page = record {
 abbrev pub on_axis : Axis → ℤ → ℤ
 on_axis axis x = round_div (axis.factor *ℤ x -ℤ axis.offset) 3600000
 
--- ---- the values of a datum: dLat, dLon and dH, or N
-abbrev pub values_say : Values → Family ℤ
-values_say (Have.Shift d_lat d_lon d_h) = shift d_lat d_lon d_h
-values_say (Have.Geoid n) = geoid n
+-- ---- a shift: dLat, dLon and dH
+abbrev pub shift_says : Shift → Family ℤ
+shift_says s = shift s.latitude s.longitude s.height
 
 -- ---- the equations of tables of the code, whose coefficients are in the units of the answer; they have no bound
 abbrev pub shift_by : List table.Term → List table.Term → List table.Term → Family Equation

@@ -1,9 +1,9 @@
 // Code 3, NAD 27 (Alaska): document 000, Table 20.31. Each table stands by rising power of V, then of U.
 ghost use Rattle.std.specs.Prelude.{◌≡◌};
-ghost use Rattle.tables.specs.Inside.{evaluated_at, values_say, AllFit};
+ghost use Rattle.tables.specs.Inside.{evaluated_at, shift_says, AllFit};
 ghost use Rattle.tables.specs.Alaska.{alaska};
 
-use super::{Axis, Family, Frame, Place, Values, shift_values};
+use super::{Axis, Family, Frame, Place, Shift, shift_at};
 use equation::Term;
 use kinds::LocalLatitude;
 
@@ -104,9 +104,9 @@ const HEIGHT: [Term; 17] = [
     Term(-11, 1, 9), // - 0.011 UV^9
 ];
 
-pub(crate) fn values(place: Place) -> Values
+pub(crate) fn shift(place: Place) -> Shift
     requires { AllFit alaska.equations place.u.0 place.v.0 }
-    ensures { values_say result ≡ evaluated_at alaska.equations place.u.0 place.v.0 }
+    ensures { shift_says result ≡ evaluated_at alaska.equations place.u.0 place.v.0 }
 {
-    shift_values(place, &LATITUDE, &LONGITUDE, &HEIGHT)
+    shift_at(place, &LATITUDE, &LONGITUDE, &HEIGHT)
 }

@@ -1,9 +1,9 @@
 // Code 1, ED 50 (Cyprus): document 000, Table 20.16. Each table stands by rising power of V, then of U.
 ghost use Rattle.std.specs.Prelude.{◌≡◌};
-ghost use Rattle.tables.specs.Inside.{evaluated_at, values_say, AllFit};
+ghost use Rattle.tables.specs.Inside.{evaluated_at, shift_says, AllFit};
 ghost use Rattle.tables.specs.Cyprus.{cyprus};
 
-use super::{Axis, Family, Frame, Place, Values, shift_values};
+use super::{Axis, Family, Frame, Place, Shift, shift_at};
 use equation::Term;
 use kinds::LocalLatitude;
 
@@ -61,9 +61,9 @@ const HEIGHT: [Term; 11] = [
     Term(2_261, 4, 9), // + 2.261 U^4V^9
 ];
 
-pub(crate) fn values(place: Place) -> Values
+pub(crate) fn shift(place: Place) -> Shift
     requires { AllFit cyprus.equations place.u.0 place.v.0 }
-    ensures { values_say result ≡ evaluated_at cyprus.equations place.u.0 place.v.0 }
+    ensures { shift_says result ≡ evaluated_at cyprus.equations place.u.0 place.v.0 }
 {
-    shift_values(place, &LATITUDE, &LONGITUDE, &HEIGHT)
+    shift_at(place, &LATITUDE, &LONGITUDE, &HEIGHT)
 }

@@ -1,9 +1,10 @@
 // Code 5, Kandawala, geoid heights: document 000, Table 23.21. Each table stands by rising power of V, then of U.
 ghost use Rattle.std.specs.Prelude.{◌≡◌};
-ghost use Rattle.tables.specs.Inside.{evaluated_at, values_say, AllFit};
+ghost use Rattle.tables.specs.Page.{geoid};
+ghost use Rattle.tables.specs.Inside.{evaluated_at, AllFit};
 ghost use Rattle.tables.specs.Kandawala.{kandawala};
 
-use super::{Axis, Family, Frame, Place, Values, geoid_values};
+use super::{Axis, Family, Frame, Place, geoid_at};
 use equation::Term;
 use kinds::LocalLatitude;
 
@@ -40,9 +41,9 @@ const HEIGHT: [Term; 9] = [
     Term(5_225, 2, 9), // + 5.225 U^2V^9
 ];
 
-pub(crate) fn values(place: Place) -> Values
+pub(crate) fn geoid(place: Place) -> i32
     requires { AllFit kandawala.equations place.u.0 place.v.0 }
-    ensures { values_say result ≡ evaluated_at kandawala.equations place.u.0 place.v.0 }
+    ensures { geoid result ≡ evaluated_at kandawala.equations place.u.0 place.v.0 }
 {
-    geoid_values(place, &HEIGHT)
+    geoid_at(place, &HEIGHT)
 }

@@ -11,8 +11,9 @@ mod qatar;
 ghost use Rattle.std.specs.Prelude.{◌≡◌, true, ◌≤◌, nat_abs};
 ghost use Rattle.whole.specs.Round.{scale};
 ghost use Rattle.equation.specs.Inside.{terms};
+ghost use Rattle.tables.specs.Page.{geoid, is_shift, is_geoid};
 ghost use Rattle.tables.specs.Rule.{counted_from, enclosed, in_box, worked};
-ghost use Rattle.tables.specs.Inside.{datum_page, frame_of, on_axis, shift_by, geoid_by, equation_at, evaluated_at, values_say, Fits, AllFit, Close};
+ghost use Rattle.tables.specs.Inside.{datum_page, frame_of, on_axis, shift_by, geoid_by, equation_at, evaluated_at, shift_says, Fits, AllFit, Close};
 
 use equation::{Powers, Term};
 use kinds::{LocalLatitude, LocalLongitude, LocalPosition, within};
@@ -43,20 +44,44 @@ impl Datum {
         }
     }
 
-    // What the equations give for a position of the area.
-    pub fn values(self, position: LocalPosition) -> Values
-        requires { in_box (datum_page self) position.latitude.0 position.longitude.0 ≡ true }
-        ensures { values_say result ≡ worked (datum_page self) position.latitude.0 position.longitude.0 }
+    // The shift of a position of the area, where the datum has shifts. It stands apart from the tests of a point, so that a
+    // refusal is short.
+    #[inline(never)]
+    pub fn shift(self, position: LocalPosition) -> Shift
+        requires family { is_shift (datum_page self).equations ≡ true }
+        requires inside { in_box (datum_page self) position.latitude.0 position.longitude.0 ≡ true }
+        ensures { shift_says result ≡ worked (datum_page self) position.latitude.0 position.longitude.0 }
     {
         let frame = self.frame();
         let place = frame.place(position);
         match self {
-            Datum::Cyprus => cyprus::values(place),
-            Datum::Minna => minna::values(place),
-            Datum::Alaska => alaska::values(place),
-            Datum::Qatar => qatar::values(place),
-            Datum::Kandawala => kandawala::values(place),
-            Datum::Nahrwan => nahrwan::values(place),
+            Datum::Cyprus => cyprus::shift(place),
+            Datum::Minna => minna::shift(place),
+            Datum::Alaska => alaska::shift(place),
+            Datum::Qatar => qatar::shift(place),
+            // never asked; with a trap here the compiler would work the equations where only a refusal is wanted
+            Datum::Kandawala | Datum::Nahrwan => Shift {
+                latitude: 0,
+                longitude: 0,
+                height: 0,
+            },
+        }
+    }
+
+    // The geoid height of a position of the area in mm, where the datum has geoid heights.
+    #[inline(never)]
+    pub fn geoid(self, position: LocalPosition) -> i32
+        requires family { is_geoid (datum_page self).equations ≡ true }
+        requires inside { in_box (datum_page self) position.latitude.0 position.longitude.0 ≡ true }
+        ensures { geoid result ≡ worked (datum_page self) position.latitude.0 position.longitude.0 }
+    {
+        let frame = self.frame();
+        let place = frame.place(position);
+        match self {
+            Datum::Kandawala => kandawala::geoid(place),
+            Datum::Nahrwan => nahrwan::geoid(place),
+            // never asked, likewise
+            Datum::Cyprus | Datum::Minna | Datum::Alaska | Datum::Qatar => 0,
         }
     }
 }
@@ -68,15 +93,12 @@ pub enum Family {
     Geoid,
 }
 
-// The values of a datum: dLat, dLon and dH, or N.
+// The shift of a point: dLat and dLon in 0.00001", dH in mm.
 #[derive(Clone, Copy)]
-pub enum Values {
-    Shift {
-        latitude: i32,
-        longitude: i32,
-        height: i32,
-    },
-    Geoid(i32),
+pub struct Shift {
+    pub latitude: i32,
+    pub longitude: i32,
+    pub height: i32,
 }
 
 // What is particular to a datum but its tables: its family, how u and v come of a position, and the ends of the area in ms, of
@@ -151,34 +173,34 @@ impl Axis {
     }
 }
 
-// The values of a shift datum at a place, by its three tables. It is put into each function that calls it, where a table is a
-// constant, of which the compiler makes straight code.
+// The shift at a place, by three tables. It is put into each function that calls it, where a table is a constant, of which the
+// compiler makes straight code.
 #[inline(always)]
-pub(crate) fn shift_values(
+pub(crate) fn shift_at(
     place: Place,
     latitude: &[Term],
     longitude: &[Term],
     height: &[Term],
-) -> Values
+) -> Shift
     requires { AllFit (shift_by latitude.now longitude.now height.now) place.u.0 place.v.0 }
-    ensures { values_say result ≡ evaluated_at (shift_by latitude.now longitude.now height.now) place.u.0 place.v.0 }
+    ensures { shift_says result ≡ evaluated_at (shift_by latitude.now longitude.now height.now) place.u.0 place.v.0 }
 {
     let powers = Powers::of(place.u, place.v);
-    Values::Shift {
+    Shift {
         latitude: value(latitude, powers),
         longitude: value(longitude, powers),
         height: value(height, powers),
     }
 }
 
-// The geoid height of a geoid datum, likewise.
+// The geoid height at a place, likewise.
 #[inline(always)]
-pub(crate) fn geoid_values(place: Place, height: &[Term]) -> Values
+pub(crate) fn geoid_at(place: Place, height: &[Term]) -> i32
     requires { AllFit (geoid_by height.now) place.u.0 place.v.0 }
-    ensures { values_say result ≡ evaluated_at (geoid_by height.now) place.u.0 place.v.0 }
+    ensures { geoid result ≡ evaluated_at (geoid_by height.now) place.u.0 place.v.0 }
 {
     let powers = Powers::of(place.u, place.v);
-    Values::Geoid(value(height, powers))
+    value(height, powers)
 }
 
 // One equation: its sum, divided and rounded once, of whose answer 4 bytes are known to be enough.

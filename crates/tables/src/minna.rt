@@ -1,9 +1,9 @@
 // Code 2, Minna: document 000, Table 20.29. Each table stands by rising power of V, then of U.
 ghost use Rattle.std.specs.Prelude.{◌≡◌};
-ghost use Rattle.tables.specs.Inside.{evaluated_at, values_say, AllFit};
+ghost use Rattle.tables.specs.Inside.{evaluated_at, shift_says, AllFit};
 ghost use Rattle.tables.specs.Minna.{minna};
 
-use super::{Axis, Family, Frame, Place, Values, shift_values};
+use super::{Axis, Family, Frame, Place, Shift, shift_at};
 use equation::Term;
 use kinds::LocalLatitude;
 
@@ -76,9 +76,9 @@ const HEIGHT: [Term; 9] = [
     Term(-27_760, 3, 8), // - 27.760 U^3V^8
 ];
 
-pub(crate) fn values(place: Place) -> Values
+pub(crate) fn shift(place: Place) -> Shift
     requires { AllFit minna.equations place.u.0 place.v.0 }
-    ensures { values_say result ≡ evaluated_at minna.equations place.u.0 place.v.0 }
+    ensures { shift_says result ≡ evaluated_at minna.equations place.u.0 place.v.0 }
 {
-    shift_values(place, &LATITUDE, &LONGITUDE, &HEIGHT)
+    shift_at(place, &LATITUDE, &LONGITUDE, &HEIGHT)
 }

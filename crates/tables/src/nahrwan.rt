@@ -1,9 +1,10 @@
 // Code 6, Nahrwan, geoid heights: document 000, Table 23.27. Each table stands by rising power of V, then of U.
 ghost use Rattle.std.specs.Prelude.{◌≡◌};
-ghost use Rattle.tables.specs.Inside.{evaluated_at, values_say, AllFit};
+ghost use Rattle.tables.specs.Page.{geoid};
+ghost use Rattle.tables.specs.Inside.{evaluated_at, AllFit};
 ghost use Rattle.tables.specs.Nahrwan.{nahrwan};
 
-use super::{Axis, Family, Frame, Place, Values, geoid_values};
+use super::{Axis, Family, Frame, Place, geoid_at};
 use equation::Term;
 use kinds::LocalLatitude;
 
@@ -37,9 +38,9 @@ const HEIGHT: [Term; 7] = [
     Term(-1_613, 0, 3), // - 1.613 V^3
 ];
 
-pub(crate) fn values(place: Place) -> Values
+pub(crate) fn geoid(place: Place) -> i32
     requires { AllFit nahrwan.equations place.u.0 place.v.0 }
-    ensures { values_say result ≡ evaluated_at nahrwan.equations place.u.0 place.v.0 }
+    ensures { geoid result ≡ evaluated_at nahrwan.equations place.u.0 place.v.0 }
 {
-    geoid_values(place, &HEIGHT)
+    geoid_at(place, &HEIGHT)
 }

@@ -1,9 +1,9 @@
 // Code 4, Qatar National: document 000, Table 20.41. Each table stands by rising power of V, then of U.
 ghost use Rattle.std.specs.Prelude.{◌≡◌};
-ghost use Rattle.tables.specs.Inside.{evaluated_at, values_say, AllFit};
+ghost use Rattle.tables.specs.Inside.{evaluated_at, shift_says, AllFit};
 ghost use Rattle.tables.specs.Qatar.{qatar};
 
-use super::{Axis, Family, Frame, Place, Values, shift_values};
+use super::{Axis, Family, Frame, Place, Shift, shift_at};
 use equation::Term;
 use kinds::LocalLatitude;
 
@@ -64,9 +64,9 @@ const HEIGHT: [Term; 9] = [
     Term(18_689, 1, 8), // + 18.689 UV^8
 ];
 
-pub(crate) fn values(place: Place) -> Values
+pub(crate) fn shift(place: Place) -> Shift
     requires { AllFit qatar.equations place.u.0 place.v.0 }
-    ensures { values_say result ≡ evaluated_at qatar.equations place.u.0 place.v.0 }
+    ensures { shift_says result ≡ evaluated_at qatar.equations place.u.0 place.v.0 }
 {
-    shift_values(place, &LATITUDE, &LONGITUDE, &HEIGHT)
+    shift_at(place, &LATITUDE, &LONGITUDE, &HEIGHT)
 }

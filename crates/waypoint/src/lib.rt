@@ -55,7 +55,8 @@ pub fn element(position: Wgs84Position, line: &mut [u8]) -> usize
     end + kinds::copy(b"\"/>", &mut line[end..])
 }
 
-// A label and the decimal degrees that it stands before.
+// A label and the decimal degrees that it stands before. A call of it would take a waypoint 51 instructions.
+#[inline(always)]
 fn labelled(label: &[u8], billionths: i64, line: &mut [u8]) -> usize
     requires { (nat_abs billionths < 1000000000000) × (length label.now + 14 ≤ length line.old) }
     ensures value { result ≡ length (label.now ++ nine_places billionths) }

@@ -1,25 +1,38 @@
 use Rattle.std.proofs.Common.{sym, ap, ◌∙◌, rules}
-use mathlib.Core.Bool.{not, false≢true}
-use lib.IntN.{ℤ}
 use mir.Syntax.{w32}
 use mir.Val.{SFits}
 use Rattle.whole.proofs.Words.{of}
 use Rattle.kinds.specs.Answer.{gives}
-use Rattle.kinds.proofs.Calls.{came}
+use Rattle.kinds.proofs.Answers.{handed_on}
 use Rattle.tables.specs.Page.{geoid, is_geoid}
-use Rattle.tables.specs.Inside.{values_say}
-use Rattle.datum.specs.Point.{geoid_of}
-use Rattle.datum.proofs.Calls.{of_family, worked_shift}
+use Rattle.tables.specs.Inside.{datum_page}
+use Rattle.datum.specs.Cases.{geoid_says}
+use Rattle.datum.specs.Inside.{located}
+use Rattle.datum.proofs.Points.{inside, works, refuses}
+use Rattle.datum.proofs.Calls.{right, told, positioned}
 use Rattle.datum.proofs.geoid.Goals as goal
+
+pub geoid-requires : goal.geoid-requires
+geoid-requires c =
+    let page = datum_page c.in_ok-datum.datum in
+    record {
+      family = (told is_geoid c.ranges.code c.in_ok-datum.ensures).0;
+      inside = inside page c.args.latitude c.args.longitude (positioned (located page) c.ranges.latitude c.ranges.longitude c.in_ok-position.ensures);
+    }
 
 pub returns : goal.returns
 returns c =
-    let h : SFits w32 c.in-Geoid.height = search rules in
-    ap (λ (x : ℤ). gives (geoid x)) (c.from.ensures ∙ (of h).reads)
-    ∙ ap gives (sym (ap values_say c.in-Geoid.is))
-    ∙ c.in_ok-values.ensures ∙ came c.ranges.code c.ranges.latitude c.ranges.longitude geoid_of
+    let page = datum_page c.in_ok-datum.datum in
+    let t = told is_geoid c.ranges.code c.in_ok-datum.ensures in
+    let fn : SFits w32 c.geoid.result = search rules in
+    ap gives (ap geoid (c.from.ensures ∙ (of fn).reads) ∙ c.geoid.ensures)
+    ∙ sym (works page c.args.latitude c.args.longitude (positioned (located page) c.ranges.latitude c.ranges.longitude c.in_ok-position.ensures))
+    ∙ right is_geoid c.args.code c.args.latitude c.args.longitude page t.0 t.1
 
-pub unreachable-requires : goal.unreachable-requires
-unreachable-requires c =
-    let e = c.in_ok-values.ensures ∙ came c.ranges.code c.ranges.latitude c.ranges.longitude geoid_of in
-    false≢true (ap is_geoid (sym (ap values_say c.in-Shift.is)) ∙ of_family is_geoid is_geoid (λ f e. ap not (worked_shift f e)) c.args.code c.args.latitude c.args.longitude (sym e))
+pub returns-in_err-position : goal.returns-in_err-position
+returns-in_err-position c =
+    let page = datum_page c.in_ok-datum.datum in
+    let t = told is_geoid c.ranges.code c.in_ok-datum.ensures in
+    handed_on geoid_says c.from_residual-in_err-position.result _ c.from_residual-in_err-position.ensures.1
+    ∙ sym (refuses page c.args.latitude c.args.longitude _ (positioned (located page) c.ranges.latitude c.ranges.longitude c.in_err-position.ensures))
+    ∙ right is_geoid c.args.code c.args.latitude c.args.longitude page t.0 t.1

@@ -1,25 +1,34 @@
-use Rattle.std.proofs.Common.{sym, ap, ◌∙◌, rules}
-use mathlib.Core.Bool.{false≢true}
-use mir.Syntax.{w32}
-use mir.Val.{SFits}
-use Rattle.whole.proofs.Words.{of}
+use Rattle.std.proofs.Common.{sym, ap, ◌∙◌}
 use Rattle.kinds.specs.Answer.{gives}
-use Rattle.kinds.proofs.Calls.{came}
-use Rattle.tables.specs.Page.{shift, is_shift}
-use Rattle.tables.specs.Inside.{values_say}
-use Rattle.datum.specs.Point.{shift_of}
-use Rattle.datum.proofs.Calls.{of_family, worked_shift}
+use Rattle.kinds.proofs.Answers.{handed_on}
+use Rattle.tables.specs.Page.{is_shift}
+use Rattle.tables.specs.Inside.{datum_page}
+use Rattle.datum.specs.Cases.{shift_says}
+use Rattle.datum.specs.Inside.{located}
+use Rattle.datum.proofs.Points.{inside, works, refuses}
+use Rattle.datum.proofs.Calls.{right, told, positioned}
 use Rattle.datum.proofs.shift.Goals as goal
+
+pub shift-requires : goal.shift-requires
+shift-requires c =
+    let page = datum_page c.in_ok-datum.datum in
+    record {
+      family = (told is_shift c.ranges.code c.in_ok-datum.ensures).0;
+      inside = inside page c.args.latitude c.args.longitude (positioned (located page) c.ranges.latitude c.ranges.longitude c.in_ok-position.ensures);
+    }
 
 pub returns : goal.returns
 returns c =
-    let a : SFits w32 c.in-Shift.latitude = search rules in
-    let b : SFits w32 c.in-Shift.longitude = search rules in
-    let h : SFits w32 c.in-Shift.height = search rules in
-    ap gives (c.of.ensures ∙ (λ i. shift ((of a).reads i) ((of b).reads i) ((of h).reads i)) ∙ sym (ap values_say c.in-Shift.is))
-    ∙ c.in_ok-values.ensures ∙ came c.ranges.code c.ranges.latitude c.ranges.longitude shift_of
+    let page = datum_page c.in_ok-datum.datum in
+    let t = told is_shift c.ranges.code c.in_ok-datum.ensures in
+    ap gives (c.of.ensures ∙ c.shift.ensures)
+    ∙ sym (works page c.args.latitude c.args.longitude (positioned (located page) c.ranges.latitude c.ranges.longitude c.in_ok-position.ensures))
+    ∙ right is_shift c.args.code c.args.latitude c.args.longitude page t.0 t.1
 
-pub unreachable-requires : goal.unreachable-requires
-unreachable-requires c =
-    let e = c.in_ok-values.ensures ∙ came c.ranges.code c.ranges.latitude c.ranges.longitude shift_of in
-    false≢true (ap is_shift (sym (ap values_say c.in-Geoid.is)) ∙ of_family is_shift is_shift worked_shift c.args.code c.args.latitude c.args.longitude (sym e))
+pub returns-in_err-position : goal.returns-in_err-position
+returns-in_err-position c =
+    let page = datum_page c.in_ok-datum.datum in
+    let t = told is_shift c.ranges.code c.in_ok-datum.ensures in
+    handed_on shift_says c.from_residual-in_err-position.result _ c.from_residual-in_err-position.ensures.1
+    ∙ sym (refuses page c.args.latitude c.args.longitude _ (positioned (located page) c.ranges.latitude c.ranges.longitude c.in_err-position.ensures))
+    ∙ right is_shift c.args.code c.args.latitude c.args.longitude page t.0 t.1

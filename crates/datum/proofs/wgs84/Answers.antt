@@ -1,4 +1,4 @@
-use Rattle.std.proofs.Common.{sym, ◌∙◌}
+use Rattle.std.proofs.Common.{◌∙◌}
 use Rattle.whole.proofs.Words.{of}
 use Rattle.kinds.proofs.Calls.{came}
 use Rattle.datum.specs.Point.{shift_of}
