@@ -13,31 +13,32 @@ use borrow.Rule.Slice.PartMut.{put_mid}
 use Rattle.whole.proofs.Bools.{by_test}
 use Rattle.kinds.specs.Bytes.{part}
 use Rattle.kinds.proofs.Writing.{grown}
+use Rattle.std.specs.Prelude.{Some}
 use Rattle.line.specs.Line.{line_feed, unbroken}
 use Rattle.line.specs.declared.Form.{Form}
-use Rattle.stream.specs.Inside.{index_of, FirstFeed, end_for}
+use Rattle.stream.specs.Inside.{first_feed, Clear, end_for}
 use Rattle.stream.specs.Stream.{printed, ended, begun_after, held, kept, after, at_end, of_lines, taken_of, answers, closing}
 use Rattle.stream.specs.declared.Begun.{Begun}
 use Rattle.stream.specs.declared.Reading.{Reading}
 use Rattle.stream.specs.declared.Fed.{Fed}
 use Rattle.stream.proofs.Lines.{begun_pieces, goes_on, begins_anew}
 use Rattle.stream.proofs.Keeping.{take_min}
-use Rattle.stream.proofs.Finding.{first_left}
+use Rattle.stream.proofs.Finding.{index_of, FirstFeed, first_left, found_some, found_none}
 use Rattle.stream.proofs.Printing.{printed_short, answers_pieces, answers_none, answers_line}
 
 -- ---- the next line feed
-before_feed : (xs : List ℕ) → unbroken (take (index_of line_feed xs) xs) ≡ true
+before_feed : (xs : List ℕ) → unbroken (take (index_of xs) xs) ≡ true
 unfolding index_of
 before_feed [] = refl
 before_feed (x ∷ xs) = by_test (eqb x line_feed) (λ t. simp t) (λ t. simp t (before_feed xs))
 
-at_feed : (xs : List ℕ) → index_of line_feed xs < length xs → get_or xs (index_of line_feed xs) 0 ≡ line_feed
+at_feed : (xs : List ℕ) → index_of xs < length xs → get_or xs (index_of xs) 0 ≡ line_feed
 unfolding index_of
 at_feed [] h = absurd (omega arith)
 at_feed (x ∷ xs) h =
     by_test (eqb x line_feed)
     (λ t. simp t (eqb-true x line_feed t))
-    (λ t. let k : suc (index_of line_feed xs) < suc (length xs) = simp t at h in simp t (at_feed xs (omega arith)))
+    (λ t. let k : suc (index_of xs) < suc (length xs) = simp t at h in simp t (at_feed xs (omega arith)))
 
 part_of : (from to n : ℕ) (l : List ℕ) → from + n ≤ to → part from n (take to l) ≡ part from n l
 part_of zero to n l h = take-take n to l (omega arith)
@@ -62,22 +63,22 @@ pub no_more : (left : ℕ) (bytes : List ℕ) (room : ℕ) → taken_of (take le
 no_more left bytes room = omega (arith, taken_within (take left bytes) room, length-take left bytes)
 
 -- up to the first line feed, and then for one line less
-line_taken : (k : ℕ) (xs : List ℕ) → index_of line_feed xs < length xs → of_lines (suc k) xs ≡ suc (index_of line_feed xs) + of_lines k (drop (suc (index_of line_feed xs)) xs)
+line_taken : (k : ℕ) (xs : List ℕ) → index_of xs < length xs → of_lines (suc k) xs ≡ suc (index_of xs) + of_lines k (drop (suc (index_of xs)) xs)
 unfolding of_lines index_of
 line_taken k [] h = absurd (omega arith)
 line_taken k (x ∷ xs) h =
     by_test (eqb x line_feed)
     (λ t. simp t (omega arith))
-    (λ t. let j : suc (index_of line_feed xs) < suc (length xs) = simp t at h in simp t (omega (arith, line_taken k xs (omega arith))))
+    (λ t. let j : suc (index_of xs) < suc (length xs) = simp t at h in simp t (omega (arith, line_taken k xs (omega arith))))
 
 -- all where there is none
-all_taken : (k : ℕ) (xs : List ℕ) → length xs ≤ index_of line_feed xs → of_lines (suc k) xs ≡ length xs
+all_taken : (k : ℕ) (xs : List ℕ) → length xs ≤ index_of xs → of_lines (suc k) xs ≡ length xs
 unfolding of_lines index_of
 all_taken k [] h = refl
 all_taken k (x ∷ xs) h =
     by_test (eqb x line_feed)
     (λ t. let j : suc (length xs) ≤ 0 = simp t at h in absurd (omega arith))
-    (λ t. let j : suc (length xs) ≤ suc (index_of line_feed xs) = simp t at h in simp t (ap suc (all_taken k xs (omega arith))))
+    (λ t. let j : suc (length xs) ≤ suc (index_of xs) = simp t at h in simp t (ap suc (all_taken k xs (omega arith))))
 
 -- there is room for what is put for them
 pub fits : (form : Form) (begun : List ℕ) (k : ℕ) (xs : List ℕ) → length (answers form begun (take (of_lines k xs) xs)) ≤ 48 * k
@@ -129,7 +130,7 @@ unfolding of_lines
 stops zero from most bytes h k e first last = omega arith
 stops (suc lines) from most bytes {to} {end} h k e first last =
     let f : FirstFeed from most bytes end = subst (λ (t : ℕ). FirstFeed from t bytes end) e first in
-    let g : end ≡ from + index_of line_feed (drop from (take most bytes)) = first_left line_feed bytes h f in
+    let g : end ≡ from + index_of (drop from (take most bytes)) = first_left bytes h f in
     let l = length-drop from (take most bytes) in
     let m = length-take most bytes in
     omega (arith, e, l, m, all_taken lines (drop from (take most bytes)) (omega (arith, g, l, m, last, e)))
@@ -150,12 +151,12 @@ module _ {form : Form} {bytes begun out₀ : List ℕ} {most : ℕ} {out line : 
 
   -- the next line feed is at `end`, or none is and `end` is `taken`
   module _ {taken end : ℕ} (is-taken : taken ≡ end_for lines from most) (first : FirstFeed from taken bytes end) where
-    end_is : end ≡ from + index_of line_feed (drop from (take taken bytes))
-    end_is = first_left line_feed bytes (to_within is-taken).0 first
+    end_is : end ≡ from + index_of (drop from (take taken bytes))
+    end_is = first_left bytes (to_within is-taken).0 first
 
     no_feed : unbroken (between from end bytes) ≡ true
     no_feed =
-        let n : ℕ = index_of line_feed (drop from (take taken bytes)) in
+        let n : ℕ = index_of (drop from (take taken bytes)) in
         let e : end - from ≡ n = omega (arith, end_is) in
         ap (λ (n : ℕ). unbroken (part from n bytes)) e
         ∙ ap unbroken (sym (part_of from taken n bytes (omega (arith, end_is, first.1))))
@@ -169,7 +170,7 @@ module _ {form : Form} {bytes begun out₀ : List ℕ} {most : ℕ} {out line : 
       feed_there : get_or bytes end 0 ≡ line_feed
       feed_there =
           let xs : List ℕ = drop from (take taken bytes) in
-          let n : ℕ = index_of line_feed xs in
+          let n : ℕ = index_of xs in
           ap (λ (n : ℕ). get_or bytes n 0) end_is
           ∙ sym (get_or-take taken bytes (from + n) 0 (omega (arith, end_is)))
           ∙ sym (get_or-drop from (take taken bytes) n 0)
@@ -211,8 +212,8 @@ module _ {form : Form} {bytes begun out₀ : List ℕ} {most : ℕ} {out line : 
       taken_next =
           let xs : List ℕ = drop from (take most bytes) in
           let f : FirstFeed from most bytes end = subst (λ (t : ℕ). FirstFeed from t bytes end) some_left.1 first in
-          let n : ℕ = index_of line_feed xs in
-          let g : end ≡ from + n = first_left line_feed bytes good.within f in
+          let n : ℕ = index_of xs in
+          let g : end ≡ from + n = first_left bytes good.within f in
           let k : lines ≡ suc (lines - 1) = omega (arith, some_left.0) in
           let e : from + suc n ≡ end + 1 = omega (arith, g) in
           let less : n < length xs = omega (arith, g, more, some_left.1, length-drop from (take most bytes), length-take most bytes, good.enough) in
@@ -269,6 +270,29 @@ module _ {form : Form} {bytes begun out₀ : List ℕ} {most : ℕ} {out line : 
       all_there : out ≡ answers form begun (take taken bytes) ++ drop put out₀
       all_there = good.text ∙ ap (λ (l : List ℕ). l ++ drop put out₀) (sym all_put)
 
+-- what is lent of the bytes up to `taken`, with the next line feed at i of these
+module _ {form : Form} {bytes begun out₀ : List ℕ} {most : ℕ} {out line : List ℕ} {lines from put : ℕ} (good : Good form bytes begun out₀ most out line lines from put)
+    {taken i : ℕ} (is-taken : taken ≡ end_for lines from most) (found : first_feed (between from taken bytes) ≡ Some i) where
+  first : FirstFeed from taken bytes (from + i) × (from + i < taken)
+  first = let w = to_within good is-taken in found_some from taken bytes w.0 w.1.1 found
+
+  rest_is : take i (between from taken bytes) ≡ between from (from + i) bytes
+  rest_is =
+      let e : from + i - from ≡ i = omega arith in
+      take-take i (taken - from) (drop from bytes) (omega (arith, first.1)) ∙ ap (λ (n : ℕ). part from n bytes) (sym e)
+
+  pub line_lent : length (printed form (line ++ take i (between from taken bytes))) ≤ length (take (length out - put) (drop put out))
+  line_lent = subst (λ (l : List ℕ). length (printed form (line ++ l)) ≤ length (take (length out - put) (drop put out))) (sym rest_is) (lent_room good is-taken first.0 first.1)
+
+  pub next_turn : (r : ℕ) (new : List ℕ) → r ≡ length (printed form (line ++ take i (between from taken bytes)))
+      → new ≡ printed form (line ++ take i (between from taken bytes)) ++ drop r (take (length out - put) (drop put out))
+      → Good form bytes begun out₀ most (put_mid put (length out - put) out new) [] (lines - 1) (from + (i + 1)) (put + r)
+  next_turn r new is-r is-new =
+      let e : from + i + 1 ≡ from + (i + 1) = omega arith in
+      subst (λ (n : ℕ). Good form bytes begun out₀ most (put_mid put (length out - put) out new) [] (lines - 1) n (put + r)) e
+      (turn good is-taken first.0 first.1 r new (is-r ∙ ap (λ (l : List ℕ). length (printed form (line ++ l))) rest_is)
+      (is-new ∙ ap (λ (l : List ℕ). printed form (line ++ l) ++ drop r (take (length out - put) (drop put out))) rest_is))
+
 -- ---- what a call promises
 -- of the bytes that it took, where put bytes are put
 abbrev Puts : Form → List ℕ → List ℕ → List ℕ → List ℕ → ℕ → Type 0
@@ -283,12 +307,15 @@ Took reading bytes out₀ out fed =
     × ((fed.reading ≡ after reading (take fed.taken bytes))
     × Puts reading.form (held reading.begun) (take fed.taken bytes) out₀ out fed.put)
 
-pub whole : (reading : Reading) {bytes out₀ out line : List ℕ} {most lines from put taken end : ℕ} (good : Good reading.form bytes (held reading.begun) out₀ most out line lines from put)
-    → most ≡ min reading.left (length bytes) → taken ≡ end_for lines from most → FirstFeed from taken bytes end → taken ≤ end → (r : Begun) → r ≡ kept (line ++ between from taken bytes)
+pub whole : (reading : Reading) {bytes out₀ out line : List ℕ} {most lines from put taken : ℕ} (good : Good reading.form bytes (held reading.begun) out₀ most out line lines from put)
+    → most ≡ min reading.left (length bytes) → taken ≡ end_for lines from most → Clear (between from taken bytes) → (r : Begun) → r ≡ kept (line ++ between from taken bytes)
     → Took reading bytes out₀ out (record { reading = record { form = reading.form; begun = r; left = reading.left - taken }; taken = taken; put = put })
 unfolding after
-whole reading {bytes} {out₀} {out} {most = most} {put = put} {taken = taken} good is-most is-taken first last r is-r =
-    let n : taken ≡ length (take taken bytes) = sym (length-take-le taken bytes (to_within good is-taken).1.1) in
+whole reading {bytes} {out₀} {out} {most = most} {from = from} {put = put} {taken = taken} good is-most is-taken clear r is-r =
+    let w = to_within good is-taken in
+    let first : FirstFeed from taken bytes taken = found_none from taken bytes w.0 w.1.1 clear in
+    let last : taken ≤ taken = omega arith in
+    let n : taken ≡ length (take taken bytes) = sym (length-take-le taken bytes w.1.1) in
     let may : take most bytes ≡ take reading.left bytes = ap (λ (k : ℕ). take k bytes) is-most ∙ take_min reading.left bytes in
     let state : record { form = reading.form; begun = r; left = reading.left - taken } ≡ after reading (take taken bytes) = λ i. record { form = reading.form; begun = all_begun good is-taken first last r is-r i; left = reading.left - n i } in
     (all_is good is-taken first last ∙ ap (λ (l : List ℕ). taken_of l (length out₀)) may, (state, (all_counted good is-taken first last, (all_there good is-taken first last, (put_within good, sym (length-take-le put out (put_within good)))))))

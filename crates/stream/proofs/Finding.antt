@@ -1,68 +1,222 @@
--- The first of a byte from a place up to another, looked for in parts; and eight bytes tested for a line feed as one word. Assumes
--- nothing.
+-- The first line feed among some bytes, looked for in parts; and eight bytes tested for a line feed as one word. Assumes nothing.
 use mathlib.Core.Path.{◌≡◌, refl, sym, ap, ◌∙◌, subst}
 use mathlib.Core.Bool.{Bool, true, false, ◌&&◌}
 use mathlib.Core.List.{List, [], ◌∷◌, ◌++◌}
-use Prim.Native.Nat.{ℕ, zero, suc, ◌+◌, ◌-◌, ◌*◌, ◌<◌, ◌≤◌}
+use Prim.Native.Nat.{ℕ, zero, suc, ◌+◌, ◌-◌, ◌*◌, ◌/◌, ◌<◌, ◌≤◌}
 use native.Mathlib.Omega.{arith}
 use lib.Bits.{bit_and, bit_xor, and_block, xor_block, and_le_r, xor_lt}
-use lib.Dec.{eqb}
-use lib.ListN.{length, take, drop, length-take, length-drop}
-use lib.Seq.{take-add, drop-drop, get_or-take, get_or-drop}
-use borrow.Author.Tests.{eqb-true, eq-eqb, ne_eqb}
-use Rattle.std.specs.Prelude.{slice_range}
+use lib.Dec.{eqb, ltb}
+use lib.ListN.{length, get_or, take, drop, length-append, length-take, length-drop, take-append-drop}
+use lib.Seq.{take_all, take-add, drop-drop, length-take-le}
+use borrow.Author.Count.{below_more}
+use borrow.Author.Tests.{eqb-true}
+use Rattle.std.specs.Prelude.{cond, slice_range, Some, None}
+use Rattle.std.specs.Option.{unwrap_or}
+use Rattle.std.specs.Int.{w64, from_le_bytes}
+use Rattle.std.specs.List.{position_or_len}
+use Rattle.std.specs.Simd.{first_chunks}
+use Rattle.std.proofs.lemmas.Bool.{lt-ltb, ltb-true, ltb-false}
 use Rattle.std.proofs.lemmas.List.{drop-take}
+use Rattle.std.proofs.lemmas.List.Quantifiers.{position-Some}
 use Rattle.whole.proofs.Bools.{both, by_test}
-use Rattle.kinds.specs.Bytes.{part}
-use Rattle.kinds.proofs.Bytes.{at, length_part, part_one, part_four}
-use Rattle.numbers.specs.Numbers.{number}
-use Rattle.numbers.proofs.Numbers.{one_read}
+use Rattle.kinds.proofs.Bytes.{at}
 use Rattle.line.specs.Line.{line_feed}
-use Rattle.stream.specs.Inside.{index_of, Without, First, Clear, low_first}
+use Rattle.stream.specs.Inside.{first_feed, Clear, AllClear}
+
+-- ---- where the first line feed is, or how many bytes there are
+unfoldable pub index_of : List ℕ → ℕ
+index_of [] = 0
+index_of (first ∷ rest) = cond (eqb first line_feed) 0 (suc (index_of rest))
+
+abbrev is_feed : ℕ → Bool
+is_feed byte = eqb byte line_feed
+
+index_is : (xs : List ℕ) → position_or_len is_feed xs ≡ index_of xs
+unfolding index_of
+index_is [] = refl
+index_is (x ∷ xs) = by_test (eqb x line_feed) (λ t. simp t refl) (λ t. simp t (omega (arith, index_is xs)))
+
+index_long : (xs : List ℕ) → index_of xs ≤ length xs
+unfolding index_of
+index_long [] = omega arith
+index_long (x ∷ xs) = by_test (eqb x line_feed) (λ t. simp t (omega arith)) (λ t. simp t (omega (arith, index_long xs)))
+
+found_is : (xs : List ℕ) → unwrap_or (first_feed xs) (length xs) ≡ index_of xs
+found_is xs =
+    by_test (ltb (position_or_len is_feed xs) (length xs))
+    (λ t. simp t (index_is xs))
+    (λ t. simp t (omega (arith, ltb-false (position_or_len is_feed xs) (length xs) t, index_is xs, index_long xs)))
+
+pub from_some : (xs : List ℕ) {i : ℕ} → first_feed xs ≡ Some i → (index_of xs ≡ i) × (i < length xs)
+from_some xs {i} e = (sym (found_is xs) ∙ ap (λ o. unwrap_or o (length xs)) e, (position-Some is_feed xs i 0 e).0)
+
+pub from_none : (xs : List ℕ) → Clear xs → index_of xs ≡ length xs
+from_none xs e = sym (found_is xs) ∙ ap (λ o. unwrap_or o (length xs)) e
+
+to_some : (xs : List ℕ) {i : ℕ} → index_of xs ≡ i → i < length xs → first_feed xs ≡ Some i
+to_some xs {i} e h =
+    let k : position_or_len is_feed xs ≡ i = index_is xs ∙ e in
+    let t : ltb (position_or_len is_feed xs) (length xs) ≡ true = lt-ltb (position_or_len is_feed xs) (length xs) (omega arith) in
+    simp t (ap (λ (n : ℕ). Some n) k)
+
+to_none : (xs : List ℕ) → index_of xs ≡ length xs → Clear xs
+to_none xs e =
+    by_test (ltb (position_or_len is_feed xs) (length xs))
+    (λ t. absurd (omega (arith, ltb-true (position_or_len is_feed xs) (length xs) t, index_is xs)))
+    (λ t. simp t refl)
 
 -- ---- two lists, one after the other
-module _ (byte : ℕ) where
-  -- the first such byte is past a list that has none
-  index_past : (xs ys : List ℕ) → index_of byte xs ≡ length xs → index_of byte (xs ++ ys) ≡ length xs + index_of byte ys
-  unfolding index_of
-  index_past [] ys h = omega arith
-  index_past (x ∷ xs) ys h =
-      by_test (eqb x byte)
-      (λ t. let k : 0 ≡ suc (length xs) = simp t at h in absurd (omega arith))
-      (λ t. let k : suc (index_of byte xs) ≡ suc (length xs) = simp t at h in simp t (omega (arith, index_past xs ys (omega arith))))
+-- the first is past a list that has none
+index_past : (xs ys : List ℕ) → index_of xs ≡ length xs → index_of (xs ++ ys) ≡ length xs + index_of ys
+unfolding index_of
+index_past [] ys h = omega arith
+index_past (x ∷ xs) ys h =
+    by_test (eqb x line_feed)
+    (λ t. let k : 0 ≡ suc (length xs) = simp t at h in absurd (omega arith))
+    (λ t. let k : suc (index_of xs) ≡ suc (length xs) = simp t at h in simp t (omega (arith, index_past xs ys (omega arith))))
 
-  -- and in a list that has one
-  index_within : (xs ys : List ℕ) → index_of byte xs < length xs → index_of byte (xs ++ ys) ≡ index_of byte xs
-  unfolding index_of
-  index_within [] ys h = absurd (omega arith)
-  index_within (x ∷ xs) ys h =
-      by_test (eqb x byte)
-      (λ t. simp t)
-      (λ t. let k : suc (index_of byte xs) < suc (length xs) = simp t at h in simp t (ap suc (index_within xs ys (omega arith))))
+-- and in a list that has one
+index_within : (xs ys : List ℕ) → index_of xs < length xs → index_of (xs ++ ys) ≡ index_of xs
+unfolding index_of
+index_within [] ys h = absurd (omega arith)
+index_within (x ∷ xs) ys h =
+    by_test (eqb x line_feed)
+    (λ t. simp t)
+    (λ t. let k : suc (index_of xs) < suc (length xs) = simp t at h in simp t (ap suc (index_within xs ys (omega arith))))
 
-  -- one byte
-  index_here : (x : ℕ) → x ≡ byte → index_of byte (x ∷ []) ≡ 0
-  unfolding index_of
-  index_here x h = simp (eq-eqb x byte h)
+-- ---- some bytes at the front
+pub front_some : (n : ℕ) (l : List ℕ) {i : ℕ} → first_feed (take n l) ≡ Some i → first_feed l ≡ Some i
+front_some n l {i} e =
+    let f = from_some (take n l) e in
+    to_some l
+    (ap index_of (sym (take-append-drop n l)) ∙ index_within (take n l) (drop n l) (omega (arith, f.0, f.1)) ∙ f.0)
+    (omega (arith, f.1, length-take n l))
 
-  index_behind : (x : ℕ) → (x ≡ byte → ⊥) → index_of byte (x ∷ []) ≡ 1
-  unfolding index_of
-  index_behind x h = simp (ne_eqb x byte h)
+-- where none is among them
+module _ (l : List ℕ) (n : ℕ) (within : n ≤ length l) (clear : Clear (take n l)) where
+  long : length (take n l) ≡ n
+  long = length-take-le n l within
+
+  past : index_of l ≡ n + index_of (drop n l)
+  past = omega (arith, ap index_of (take-append-drop n l), index_past (take n l) (drop n l) (from_none (take n l) clear), long)
+
+  pub behind_some : {i : ℕ} → first_feed (drop n l) ≡ Some i → first_feed l ≡ Some (n + i)
+  behind_some e = let f = from_some (drop n l) e in to_some l (omega (arith, past, f.0)) (omega (arith, f.1, length-drop n l))
+
+  pub behind_none : Clear (drop n l) → Clear l
+  behind_none e = to_none l (omega (arith, past, from_none (drop n l) e, length-drop n l, within))
+
+  pub there : (k : ℕ) {i : ℕ} → first_feed (take k (drop n l)) ≡ Some i → first_feed l ≡ Some (n + i)
+  there k e = behind_some (front_some k (drop n l) e)
+
+  pub further : (k : ℕ) → Clear (take k (drop n l)) → Clear (take (n + k) l)
+  further k e =
+      let f = index_past (take n l) (take k (drop n l)) (from_none (take n l) clear) in
+      let g = from_none (take k (drop n l)) e in
+      let s = take-add n k l in
+      to_none (take (n + k) l) (ap index_of s ∙ f ∙ ap (λ (j : ℕ). length (take n l) + j) g ∙ sym (length-append (take n l) (take k (drop n l))) ∙ ap length (sym s))
+
+-- ---- arrays one after the other
+chunk_at : (k n i : ℕ) (l d : List ℕ) → i < n → get_or (first_chunks k n l) i d ≡ take k (drop (i * k) l)
+chunk_at k zero i l d h = absurd (omega arith)
+chunk_at k (suc n) zero l d h = let e : 0 ≡ 0 * k = omega arith in ap (λ (j : ℕ). take k (drop j l)) e
+chunk_at k (suc n) (suc i) l d h =
+    let e : k + i * k ≡ suc i * k = omega arith in
+    chunk_at k n i (drop k l) d (omega arith) ∙ ap (take k) (drop-drop (i * k) k l ∙ ap (λ (j : ℕ). drop j l) e)
+
+module _ (l : List ℕ) (k n : ℕ) {ps : List (List ℕ)} (is_ps : ps ≡ first_chunks k n l) {i : ℕ} (less : i < n) (room : i * k + k ≤ length l) (clear : Clear (take (i * k) l)) where
+  one_is : (d : List ℕ) → first_feed (get_or ps i d) ≡ first_feed (take k (drop (i * k) l))
+  one_is d = ap (λ (qs : List (List ℕ)). first_feed (get_or qs i d)) is_ps ∙ ap first_feed (chunk_at k n i l d less)
+
+  within : i * k ≤ length l
+  within = omega (arith, room)
+
+  pub one_long : (d : List ℕ) → length (get_or ps i d) ≡ k
+  one_long d =
+      ap (λ (qs : List (List ℕ)). length (get_or qs i d)) is_ps
+      ∙ ap length (chunk_at k n i l d less)
+      ∙ length-take-le k (drop (i * k) l) (omega (arith, length-drop (i * k) l))
+
+  pub found_in : (d : List ℕ) {at : ℕ} → Some at ≡ first_feed (get_or ps i d) → Some (i * k + at) ≡ first_feed l
+  found_in d e = sym (there l (i * k) within clear k (sym (e ∙ one_is d)))
+
+  pub one_more : (d : List ℕ) → None ≡ first_feed (get_or ps i d) → Clear (take ((i + 1) * k) l)
+  one_more d e =
+      let f : i * k + k ≡ (i + 1) * k = omega arith in
+      subst (λ (j : ℕ). Clear (take j l)) f (further l (i * k) within clear k (sym (e ∙ one_is d)))
+
+all_clear : (k n : ℕ) (l : List ℕ) → n * k ≤ length l → AllClear (first_chunks k n l) → Clear (take (n * k) l)
+all_clear k zero l h clear = let e : 0 * k ≡ 0 = omega arith in ap (λ (j : ℕ). first_feed (take j l)) e
+all_clear k (suc n) l h clear =
+    let e : k + n * k ≡ suc n * k = omega arith in
+    let rest = all_clear k n (drop k l) (omega (arith, length-drop k l)) (λ j d m. clear (suc j) d (omega arith)) in
+    subst (λ (j : ℕ). Clear (take j l)) e (further l k (omega arith) (clear 0 [] (omega arith)) (n * k) rest)
+
+-- an element that is there, whatever stands for one that is not
+same_at : (xs : List (List ℕ)) (i : ℕ) (d e : List ℕ) → i < length xs → get_or xs i d ≡ get_or xs i e
+same_at [] i d e h = absurd (omega arith)
+same_at (x ∷ xs) zero d e h = refl
+same_at (x ∷ xs) (suc i) d e h = same_at xs i d e (omega arith)
+
+-- words that were tested, and one more
+pub tested_more : (ws : List (List ℕ)) (i : ℕ) (a b : Bool) (d : List ℕ) → i < length ws → (a ≡ true → (k : ℕ) (d : List ℕ) → k < i → Clear (get_or ws k d)) → (b ≡ true → Clear (get_or ws i d))
+    → (a && b) ≡ true → (k : ℕ) (f : List ℕ) → k < i + 1 → Clear (get_or ws k f)
+tested_more ws i a b d less before here e k f less-k =
+    let p = both a b e in
+    below_more (λ (k : ℕ). Clear (get_or ws k f)) i (λ k h. before p.0 k f h) (subst (λ (w : List ℕ). Clear w) (same_at ws i d f less) (here p.1)) k less-k
+
+pub words_clear : (l : List ℕ) {words : List (List ℕ)} (n : ℕ) → length l / 8 ≡ n → words ≡ first_chunks 8 (length l / 8) l → AllClear words → Clear (take (n * 8) l)
+words_clear l n is-n is_words clear =
+    all_clear 8 n l (omega (arith, is-n)) (subst (λ (ws : List (List ℕ)). AllClear ws) (is_words ∙ ap (λ (j : ℕ). first_chunks 8 j l) is-n) clear)
+
+pub block_clear : (block : List ℕ) {words : List (List ℕ)} → length block ≡ 128 → words ≡ first_chunks 8 (length block / 8) block → AllClear words → Clear block
+block_clear block long is_words clear =
+    subst (λ (l : List ℕ). Clear l) (take_all 128 block (omega (arith, long))) (words_clear block 16 (omega (arith, long)) is_words clear)
+
+-- what is left behind them
+module _ (l : List ℕ) (k n : ℕ) (ps : List (List ℕ)) {rest : List ℕ} (count : length ps ≡ n) (is_rest : rest ≡ drop (n * k) l) (enough : n * k ≤ length l)
+    {i : ℕ} (low : i ≤ length ps) (high : length ps ≤ i) (clear : Clear (take (i * k) l)) where
+  all : Clear (take (n * k) l)
+  all = let e : i ≡ n = omega (arith, count) in subst (λ (j : ℕ). Clear (take (j * k) l)) e clear
+
+  pub found_behind : {at : ℕ} → Some at ≡ first_feed rest → Some (length ps * k + at) ≡ first_feed l
+  found_behind {at} e =
+      ap (λ (j : ℕ). Some (j * k + at)) count ∙ sym (behind_some l (n * k) enough all (ap first_feed (sym is_rest) ∙ sym e))
+
+  pub none_behind : None ≡ first_feed rest → None ≡ first_feed l
+  none_behind e = sym (behind_none l (n * k) enough all (ap first_feed (sym is_rest) ∙ sym e))
+
+-- ---- the first 28 bytes: three words that are clear, and four bytes
+module _ (l near rest : List ℕ) (is_near : near ≡ take 28 l) (is_rest : rest ≡ drop 28 l) (cut : length rest + 28 ≡ length l) {words : List (List ℕ)} {last : List ℕ}
+    (is_words : words ≡ first_chunks 8 (length near / 8) near) (count : length words ≡ length near / 8) (is_last : last ≡ drop (length near / 8 * 8) near) (clear : AllClear words) where
+  near_long : length near ≡ 28
+  near_long = ap length is_near ∙ length-take-le 28 l (omega (arith, cut))
+
+  start_clear : Clear (take 24 near)
+  start_clear = words_clear near 3 (omega (arith, near_long)) is_words clear
+
+  last_is : last ≡ drop 24 near
+  last_is = is_last ∙ ap (λ (j : ℕ). drop (j / 8 * 8) near) near_long
+
+  pub found_near : {at : ℕ} → Some at ≡ first_feed last → Some (length words * 8 + at) ≡ first_feed l
+  found_near {at} e =
+      let three : length words ≡ 3 = omega (arith, count, near_long) in
+      ap (λ (j : ℕ). Some (j * 8 + at)) three
+      ∙ sym (front_some 28 l (ap first_feed (sym is_near) ∙ behind_some near 24 (omega (arith, near_long)) start_clear (ap first_feed (sym last_is) ∙ sym e)))
+
+  module _ (none : None ≡ first_feed last) where
+    near_clear : Clear (take 28 l)
+    near_clear = ap first_feed (sym is_near) ∙ behind_none near 24 (omega (arith, near_long)) start_clear (ap first_feed (sym last_is) ∙ sym none)
+
+    pub found_far : {at : ℕ} → Some at ≡ first_feed rest → Some (28 + at) ≡ first_feed l
+    found_far e = sym (behind_some l 28 (omega (arith, cut)) near_clear (ap first_feed (sym is_rest) ∙ sym e))
+
+    pub none_far : None ≡ first_feed rest → None ≡ first_feed l
+    none_far e = sym (behind_none l 28 (omega (arith, cut)) near_clear (ap first_feed (sym is_rest) ∙ sym e))
 
 -- ---- the bytes from a place up to another
-slice_long : (from to : ℕ) (l : List ℕ) → to ≤ length l → length (slice_range l from to) ≡ to - from
-slice_long from to l h = omega (arith, length-drop from l, length-take (to - from) (drop from l))
-
-slice_split : (from mid to : ℕ) (l : List ℕ) → from ≤ mid → mid ≤ to → slice_range l from to ≡ slice_range l from mid ++ slice_range l mid to
-slice_split from mid to l h k =
-    let n : to - from ≡ (mid - from) + (to - mid) = omega arith in
-    let m : from + (mid - from) ≡ mid = omega arith in
-    ap (λ (j : ℕ). take j (drop from l)) n
-    ∙ take-add (mid - from) (to - mid) (drop from l)
-    ∙ ap (λ (t : List ℕ). slice_range l from mid ++ take (to - mid) t) (drop-drop (mid - from) from l ∙ ap (λ (j : ℕ). drop j l) m)
-
-slice_part : (from n : ℕ) (l : List ℕ) → slice_range l from (from + n) ≡ part from n l
-slice_part from n l = let e : from + n - from ≡ n = omega arith in ap (λ (k : ℕ). take k (drop from l)) e
+abbrev pub FirstFeed : ℕ → ℕ → List ℕ → ℕ → Type 0
+FirstFeed from to bytes place = (place ≡ from + index_of (slice_range bytes from to)) × (place ≤ to)
 
 -- which are what is left of those up to the second without those up to the first
 slice_cut : (from to : ℕ) (l : List ℕ) → from ≤ to → slice_range l from to ≡ drop from (take to l)
@@ -70,81 +224,27 @@ slice_cut from to l h =
     let e : from + (to - from) ≡ to = omega arith in
     sym (drop-take from (to - from) l) ∙ ap (λ (k : ℕ). drop from (take k l)) e
 
-pub first_left : (byte : ℕ) {from to place : ℕ} (l : List ℕ) → from ≤ to → First byte from to l place → place ≡ from + index_of byte (drop from (take to l))
-first_left byte {from} {to} l h found = found.0 ∙ ap (λ (t : List ℕ). from + index_of byte t) (slice_cut from to l h)
+pub first_left : {from to place : ℕ} (l : List ℕ) → from ≤ to → FirstFeed from to l place → place ≡ from + index_of (drop from (take to l))
+first_left {from} {to} l h found = found.0 ∙ ap (λ (t : List ℕ). from + index_of t) (slice_cut from to l h)
 
--- ---- what is found in a part
-module _ (byte : ℕ) (l : List ℕ) {from mid to : ℕ} (before : from ≤ mid) (behind : mid ≤ to) (within : to ≤ length l) where
-  split : index_of byte (slice_range l from to) ≡ index_of byte (slice_range l from mid ++ slice_range l mid to)
-  split = ap (index_of byte) (slice_split from mid to l before behind)
+slice_long : (from to : ℕ) (l : List ℕ) → from ≤ to → to ≤ length l → length (slice_range l from to) ≡ to - from
+slice_long from to l h k = omega (arith, length-drop from l, length-take (to - from) (drop from l))
 
-  long : length (slice_range l from mid) ≡ mid - from
-  long = slice_long from mid l (omega arith)
+pub found_some : (from to : ℕ) (l : List ℕ) {i : ℕ} → from ≤ to → to ≤ length l → first_feed (slice_range l from to) ≡ Some i → FirstFeed from to l (from + i) × (from + i < to)
+found_some from to l h k e =
+    let f = from_some (slice_range l from to) e in
+    let n = slice_long from to l h k in
+    ((omega (arith, f.0), omega (arith, f.1, n)), omega (arith, f.1, n))
 
-  past : Without byte from mid l → index_of byte (slice_range l from to) ≡ mid - from + index_of byte (slice_range l mid to)
-  past clear = omega (arith, split, index_past byte (slice_range l from mid) (slice_range l mid to) (clear ∙ sym long), long)
-
-  -- where the first part has none, it is that of the second
-  pub on : Without byte from mid l → {place : ℕ} → First byte mid to l place → First byte from to l place
-  on clear found = (omega (arith, past clear, found.0), found.1)
-
-  pub both_clear : Without byte from mid l → Without byte mid to l → Without byte from to l
-  both_clear clear more = omega (arith, past clear, more)
-
-  -- where it has one, that is the first
-  pub first_of : {place : ℕ} → First byte from mid l place → place < mid → First byte from to l place
-  first_of found h = (omega (arith, split, index_within byte (slice_range l from mid) (slice_range l mid to) (omega (arith, long, found.0)), found.0), omega arith)
-
-module _ (byte : ℕ) (l : List ℕ) (from : ℕ) where
-  pub none_found : {to place : ℕ} → First byte from to l place → to ≤ place → Without byte from to l
-  none_found found h = omega (arith, found.0, found.1)
-
-  pub nothing : Without byte from from l
-  unfolding index_of
-  nothing = let e : from - from ≡ 0 = omega arith in simp e
-
-  -- a byte by itself
-  module _ (within : from < length l) where
-    alone : slice_range l from (from + 1) ≡ at l from ∷ []
-    alone = slice_part from 1 l ∙ part_one from l (omega arith)
-
-    pub found_here : at l from ≡ byte → First byte from (from + 1) l from
-    found_here h = (omega (arith, ap (index_of byte) alone, index_here byte (at l from) h), omega arith)
-
-    pub none_here : (at l from ≡ byte → ⊥) → Without byte from (from + 1) l
-    none_here h = omega (arith, ap (index_of byte) alone, index_behind byte (at l from) h)
-
--- ---- what holds where a search has come to a place: none was before it
-abbrev pub Passed : ℕ → ℕ → ℕ → ℕ → List ℕ → Type 0
-Passed byte from to place l = (from ≤ place) × ((place ≤ to) × Without byte from place l)
-
-module _ (byte : ℕ) (l : List ℕ) (from to : ℕ) (within : to ≤ length l) {place : ℕ} (passed : Passed byte from to place l) where
-  pub passed_more : {next : ℕ} → place ≤ next → next ≤ to → Without byte place next l → Passed byte from to next l
-  passed_more h k clear = (omega (arith, passed.0), (k, both_clear byte l passed.0 h (omega arith) passed.1.1 clear))
-
-  pub found_there : {next end : ℕ} → place ≤ next → next ≤ to → First byte place next l end → end < next → First byte from to l end
-  found_there h k found less = on byte l passed.0 passed.1.0 within passed.1.1 (first_of byte l h k within found less)
-
-  pub found_behind : {end : ℕ} → First byte place to l end → First byte from to l end
-  found_behind found = on byte l passed.0 passed.1.0 within passed.1.1 found
-
--- words one after the other, tested together
-pub word_more : (l : List ℕ) (from n : ℕ) → from + (n + 8) ≤ length l → {a b : Bool} → (a ≡ true → Clear from (from + n) l)
-    → (b ≡ true → Clear (from + n) (from + n + 8) l) → (a && b) ≡ true → Clear from (from + (n + 8)) l
-word_more l from n within {a} {b} h k e =
-    let p = both a b e in
-    let g : from + n + 8 ≡ from + (n + 8) = omega arith in
-    subst (λ (to : ℕ). Clear from to l) g (both_clear line_feed l {mid = from + n} (omega arith) (omega arith) (omega arith) (h p.0) (k p.1))
-
--- the first 24
-pub words_passed : (l : List ℕ) (from to : ℕ) → to ≤ length l → from + 24 ≤ to → {a b c : Bool} → (a ≡ true → Clear from (from + 8) l) → (b ≡ true → Clear (from + 8) (from + 8 + 8) l)
-    → (c ≡ true → Clear (from + 16) (from + 16 + 8) l) → (a && b && c) ≡ true → Passed line_feed from to (from + 24) l
-words_passed l from to within room h k m e =
-    let two = word_more l from 8 (omega arith) h k in
-    let three = word_more l from 16 (omega arith) two m in
-    (omega arith, (omega arith, three e))
+pub found_none : (from to : ℕ) (l : List ℕ) → from ≤ to → to ≤ length l → Clear (slice_range l from to) → FirstFeed from to l to
+found_none from to l h k e = (omega (arith, from_none (slice_range l from to) e, slice_long from to l h k), omega arith)
 
 -- ---- eight bytes as one word
+-- the number in bytes of which the first is the lowest
+abbrev low_first : List ℕ → ℕ
+low_first [] = 0
+low_first (byte ∷ rest) = low_first rest * 256 + byte
+
 -- a byte in so many places
 abbrev places : ℕ → ℕ → ℕ
 places byte zero = 0
@@ -179,30 +279,30 @@ last_clear word byte n h e =
     (omega arith, byte_clear byte (omega arith))
 
 -- so where it finds none in some bytes, no line feed is among them
-bytes_clear : (bytes : List ℕ) → ((i : ℕ) → i < length bytes → at bytes i < 256) → tested (low_first bytes) (length bytes) ≡ 0 → index_of line_feed bytes ≡ length bytes
+bytes_clear : (bytes : List ℕ) → ((i : ℕ) → i < length bytes → at bytes i < 256) → tested (low_first bytes) (length bytes) ≡ 0 → index_of bytes ≡ length bytes
 unfolding index_of
 bytes_clear [] known e = refl
 bytes_clear (byte ∷ bytes) known e =
     let p = last_clear (low_first bytes) byte (length bytes) (known 0 (omega arith)) e in
     simp p.1 (ap suc (bytes_clear bytes (λ i h. known (suc i) (omega arith)) p.0))
 
-module _ (l : List ℕ) (from : ℕ) where
-  pub low_four_is : from + 4 ≤ length l → {a b c d : ℕ} → a ≡ number (part (from + 3) 1 l) → b ≡ number (part (from + 2) 1 l) → c ≡ number (part (from + 1) 1 l) → d ≡ number (part from 1 l)
-      → a * 16777216 + b * 65536 + c * 256 + d ≡ low_first (part from 4 l)
-  low_four_is h is-a is_b is_c is-d =
-      rw (part_four from l h)
-      (omega (arith, is-a, is_b, is_c, is-d, one_read (from + 3) l (omega arith), one_read (from + 2) l (omega arith), one_read (from + 1) l (omega arith), one_read from l (omega arith)))
+low_eight : (l : List ℕ) → length l ≡ 8 → from_le_bytes w64 l ≡ low_first l
+low_eight [] h = absurd (omega arith)
+low_eight (a ∷ []) h = absurd (omega arith)
+low_eight (a ∷ b ∷ []) h = absurd (omega arith)
+low_eight (a ∷ b ∷ c ∷ []) h = absurd (omega arith)
+low_eight (a ∷ b ∷ c ∷ d ∷ []) h = absurd (omega arith)
+low_eight (a ∷ b ∷ c ∷ d ∷ e ∷ []) h = absurd (omega arith)
+low_eight (a ∷ b ∷ c ∷ d ∷ e ∷ f ∷ []) h = absurd (omega arith)
+low_eight (a ∷ b ∷ c ∷ d ∷ e ∷ f ∷ g ∷ []) h = absurd (omega arith)
+low_eight (a ∷ b ∷ c ∷ d ∷ e ∷ f ∷ g ∷ i ∷ []) h =
+    let k : from_le_bytes w64 (a ∷ b ∷ c ∷ d ∷ e ∷ f ∷ g ∷ i ∷ [])
+    ≡ a + b * 256 + c * 65536 + d * 16777216 + e * 4294967296 + f * 1099511627776 + g * 281474976710656 + i * 72057594037927936 =
+    refl in
+    k ∙ omega arith
+low_eight (a ∷ b ∷ c ∷ d ∷ e ∷ f ∷ g ∷ i ∷ j ∷ l) h = absurd (omega arith)
 
-  -- two fours are the eight
-  module _ (within : from + 8 ≤ length l) where
-    word_is : low_first (part (from + 4) 4 l) * 4294967296 + low_first (part from 4 l) ≡ low_first (part from 8 l)
-    word_is =
-        let e : part from 8 l ≡ part from 4 l ++ part (from + 4) 4 l = take-add 4 4 (drop from l) ∙ ap (λ (t : List ℕ). part from 4 l ++ take 4 t) (drop-drop 4 from l) in
-        rw e (rw (part_four from l (omega arith)) (omega arith))
-
-    pub word_clear : ((i : ℕ) → at l i < 256) → tested (low_first (part (from + 4) 4 l) * 4294967296 + low_first (part from 4 l)) 8 ≡ 0 → Clear from (from + 8) l
-    word_clear known e =
-        let n : length (part from 8 l) ≡ 8 = length_part from 8 l within in
-        let f : tested (low_first (part from 8 l)) (length (part from 8 l)) ≡ 0 = (λ i. tested (sym word_is i) (n i)) ∙ e in
-        let bytes : (i : ℕ) → i < length (part from 8 l) → at (part from 8 l) i < 256 = λ i h. rw (get_or-take 8 (drop from l) i 0 (omega (arith, h, n)), get_or-drop from l i 0) (known (from + i)) in
-        omega (arith, ap (index_of line_feed) (slice_part from 8 l), bytes_clear (part from 8 l) bytes f, n)
+pub word_clear : (l : List ℕ) {word : ℕ} → length l ≡ 8 → ((i : ℕ) → at l i < 256) → word ≡ from_le_bytes w64 l → tested word 8 ≡ 0 → Clear l
+word_clear l long known is-word e =
+    let w = is-word ∙ low_eight l long in
+    to_none l (bytes_clear l (λ i h. known i) ((λ i. tested (sym w i) (long i)) ∙ e))

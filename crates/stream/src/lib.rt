@@ -4,14 +4,12 @@
 
 ghost use Rattle.std.specs.Prelude.{◌≡◌, true, [], ◌++◌, ◌+◌, ◌<◌, ◌≤◌, length, take, drop};
 ghost use Rattle.kinds.specs.Answer.{number_of};
-ghost use Rattle.kinds.specs.Bytes.{part};
 ghost use Rattle.line.specs.declared.Form.TheVariants.{Numbers, Waypoints};
 ghost use Rattle.stream.specs.Stream.{refused_line, printed, held, kept, started, after, at_end, taken_of, answers, closing};
-ghost use Rattle.stream.specs.Inside.{Clear, First, FirstFeed, end_for, low_first};
+ghost use Rattle.stream.specs.Inside.{first_feed, Clear, AllClear, end_for};
 
 use kinds::Refusal;
 use line::{Form, LINE, WAYPOINT};
-use numbers::one;
 
 // The first bytes of a line whose line feed has not come. Of a longer line 27 are kept, which are refused as it is.
 #[derive(Clone, Copy)]
@@ -44,6 +42,9 @@ const KEPT: usize = LINE + 1;
 
 // the most bytes of the line of a refusal: of a comment
 const REFUSED: usize = 19;
+
+// the bytes among which most lines have their line feed, with a carriage return before it or not
+const NEAR: usize = LINE + 2;
 
 // bytes that are tested for a line feed together
 const WORD: usize = 8;
@@ -102,23 +103,23 @@ pub fn feed(reading: Reading, bytes: &[u8], out: &mut [u8]) -> Fed
     let mut put = 0;
     'lines: loop {
         let to = end_for(lines, from, most);
-        let end = line_feed(bytes, from, to);
-        if to <= end {
+        let rest = &bytes[from..to];
+        let Some(end) = line_feed(rest) else {
             let left = left - to;
             return Fed {
                 reading: Reading {
                     form,
-                    begun: extended(line, &bytes[from..to]),
+                    begun: extended(line, rest),
                     left,
                 },
                 taken: to,
                 put,
             };
-        }
-        put += ended(form, line, &bytes[from..end], &mut out[put..]);
+        };
+        put += ended(form, line, &rest[..end], &mut out[put..]);
         line.count = 0;
         lines -= 1;
-        from = end + 1;
+        from += end + 1;
     }
 }
 
@@ -149,118 +150,82 @@ pub fn finish(reading: Reading, out: &mut [u8]) -> Fed
     }
 }
 
-// Where the first line feed is, from a place up to another, or the other where none is. Before the line feed of most lines are 26
-// bytes, or 27 with a carriage return: so 24 are tested as words, and four by themselves.
-fn line_feed(bytes: &[u8], from: usize, to: usize) -> usize
-    requires { (from ≤ to) × (to ≤ length bytes.now) }
-    ensures { FirstFeed from to bytes.now result }
+// Where the first line feed is, if one is. Before the line feed of most lines are 26 bytes, or 27 with a carriage return: so 24 are
+// tested as words, and four by themselves.
+fn line_feed(bytes: &[u8]) -> Option<usize>
+    ensures { result ≡ first_feed bytes.now }
 {
-    if to - from < 28 {
-        return by_words(bytes, from, to);
+    let Some((near, rest)) = bytes.split_first_chunk::<NEAR>() else {
+        return by_words(bytes);
+    };
+    let (words, last) = near.as_chunks::<WORD>();
+    if !are_clear(words) {
+        return by_words(bytes);
     }
-    if !(is_clear(bytes, from) & is_clear(bytes, from + 8) & is_clear(bytes, from + 16)) {
-        return by_words(bytes, from, to);
+    if let Some(at) = find(last) {
+        return Some(words.len() * WORD + at);
     }
-    let near = find(bytes, from + 24, from + 28, b'\n');
-    if near < from + 28 {
-        return near;
-    }
-    by_blocks(bytes, from + 28, to)
+    Some(NEAR + by_blocks(rest)?)
 }
 
 // The same, for a line that is longer: by blocks, and where a line feed may be, by words.
-fn by_blocks(bytes: &[u8], from: usize, to: usize) -> usize
-    requires { (from ≤ to) × (to ≤ length bytes.now) }
-    ensures { FirstFeed from to bytes.now result }
+fn by_blocks(bytes: &[u8]) -> Option<usize>
+    ensures { result ≡ first_feed bytes.now }
 {
-    let mut at = from;
-    while BLOCK <= to - at {
-        if !is_clear_block(bytes, at) {
-            let end = by_words(bytes, at, at + BLOCK);
-            if end < at + BLOCK {
-                return end;
+    let (blocks, rest) = bytes.as_chunks::<BLOCK>();
+    for (i, block) in blocks.iter().enumerate() {
+        let (words, _) = block.as_chunks::<WORD>();
+        if !are_clear(words) {
+            if let Some(at) = by_words(block) {
+                return Some(i * BLOCK + at);
             }
         }
-        at += BLOCK;
     }
-    by_words(bytes, at, to)
+    Some(blocks.len() * BLOCK + by_words(rest)?)
 }
 
 // The same, by words, and where a line feed may be, by bytes.
-fn by_words(bytes: &[u8], from: usize, to: usize) -> usize
-    requires { (from ≤ to) × (to ≤ length bytes.now) }
-    ensures { FirstFeed from to bytes.now result }
+fn by_words(bytes: &[u8]) -> Option<usize>
+    ensures { result ≡ first_feed bytes.now }
 {
-    let mut at = from;
-    while WORD <= to - at {
-        if !is_clear(bytes, at) {
-            let end = find(bytes, at, at + WORD, b'\n');
-            if end < at + WORD {
-                return end;
+    let (words, rest) = bytes.as_chunks::<WORD>();
+    for (i, word) in words.iter().enumerate() {
+        if !is_clear(*word) {
+            if let Some(at) = find(word) {
+                return Some(i * WORD + at);
             }
         }
-        at += WORD;
     }
-    find(bytes, at, to, b'\n')
+    Some(words.len() * WORD + find(rest)?)
 }
 
-// Where the first such byte is, from a place up to another, or the other where none is.
-fn find(bytes: &[u8], from: usize, to: usize, byte: u8) -> usize
-    requires { (from ≤ to) × (to ≤ length bytes.now) }
-    ensures { First byte from to bytes.now result }
+// The same, by bytes.
+fn find(bytes: &[u8]) -> Option<usize>
+    ensures { result ≡ first_feed bytes.now }
 {
-    for at in from..to {
-        if bytes[at] == byte {
-            return at;
-        }
-    }
-    to
+    bytes.iter().position(|byte| *byte == b'\n')
 }
 
-// That no line feed is in a block. In one expression, so that its words are tested together.
-fn is_clear_block(bytes: &[u8], at: usize) -> bool
-    requires { at + 128 ≤ length bytes.now }
-    ensures { result ≡ true → Clear at (at + 128) bytes.now }
+// That no line feed is in some words. None is passed over where one has a line feed, so that they are tested together.
+fn are_clear(words: &[[u8; WORD]]) -> bool
+    ensures { result ≡ true → AllClear words.now }
 {
-    is_clear(bytes, at)
-        & is_clear(bytes, at + 8)
-        & is_clear(bytes, at + 16)
-        & is_clear(bytes, at + 24)
-        & is_clear(bytes, at + 32)
-        & is_clear(bytes, at + 40)
-        & is_clear(bytes, at + 48)
-        & is_clear(bytes, at + 56)
-        & is_clear(bytes, at + 64)
-        & is_clear(bytes, at + 72)
-        & is_clear(bytes, at + 80)
-        & is_clear(bytes, at + 88)
-        & is_clear(bytes, at + 96)
-        & is_clear(bytes, at + 104)
-        & is_clear(bytes, at + 112)
-        & is_clear(bytes, at + 120)
+    let mut clear = true;
+    for word in words {
+        clear &= is_clear(*word);
+    }
+    clear
 }
 
 // That no line feed is in a word; where 0x8A is in it, which is a line feed with a bit more, this is not said either. The first
 // constant turns the lower seven bits of both, and of no other byte, into ones, so that with 1 more they have an eighth; no byte
 // carries into the next.
-fn is_clear(bytes: &[u8], at: usize) -> bool
-    requires { at + 8 ≤ length bytes.now }
-    ensures { result ≡ true → Clear at (at + 8) bytes.now }
+fn is_clear(bytes: [u8; WORD]) -> bool
+    ensures { result ≡ true → Clear bytes }
 {
-    let word = low_four(bytes, at + 4) as u64 * 4_294_967_296 + low_four(bytes, at) as u64;
+    let word = u64::from_le_bytes(bytes);
     let marked = ((word ^ 0x7575_7575_7575_7575) & 0x7F7F_7F7F_7F7F_7F7F) + 0x0101_0101_0101_0101;
     marked & 0x8080_8080_8080_8080 == 0
-}
-
-// Four bytes as one number, the first the lowest, as the processor has them: so the compiler tests two words at a time.
-fn low_four(bytes: &[u8], at: usize) -> u32
-    requires { at + 4 ≤ length bytes.now }
-    ensures { result ≡ low_first (part at 4 bytes.now) }
-{
-    one(bytes, at + 3) * 16_777_216
-        + one(bytes, at + 2) * 65_536
-        + one(bytes, at + 1) * 256
-        + one(bytes, at)
 }
 
 // Where the bytes end that may be taken: at the place itself, where there is room for no line more.

@@ -1,23 +1,12 @@
-use Rattle.std.proofs.Common.{◌+◌, arith}
-use Rattle.line.specs.Line.{line_feed}
-use Rattle.stream.proofs.Finding.{Passed, none_found, words_passed, passed_more, found_there, found_behind}
+use Rattle.std.proofs.Common.{◌∙◌}
+use Rattle.stream.proofs.Finding.{found_near, found_far, none_far}
 use Rattle.stream.proofs.line_feed.Goals as goal
 
-pub returns-then-near-from : goal.returns-then-near-from
-returns-then-near-from c =
-    let l = c.args.bytes.now in
-    let i = c.args.from in
-    let to = c.args.to in
-    let words : Passed line_feed i to (i + 24) l =
-    words_passed l i to c.requires.1 (omega arith) c.is_clear.ensures c.is_clear-2.ensures c.is_clear-3.ensures c.if-not-is_clear.false in
-    found_there line_feed l i to c.requires.1 words (omega arith) (omega arith) c.find-near.ensures c.if-near-from.true
+pub returns-in-Some-find : goal.returns-in-Some-find
+returns-in-Some-find c = found_near c.args.bytes.now c.in-Some.near.now c.in-Some.rest.now c.in-Some.ensures.cases.0 c.in-Some.ensures.cases.1 c.in-Some.ensures.cases.2 c.as_chunks.ensures.front c.as_chunks.ensures.front_len c.as_chunks.ensures.back (c.are_clear.ensures c.if-not-are_clear.false) c.in-Some-find.ensures
+
+pub returns-in_err-by_blocks : goal.returns-in_err-by_blocks
+returns-in_err-by_blocks c = c.from_residual.ensures ∙ none_far c.args.bytes.now c.in-Some.near.now c.in-Some.rest.now c.in-Some.ensures.cases.0 c.in-Some.ensures.cases.1 c.in-Some.ensures.cases.2 c.as_chunks.ensures.front c.as_chunks.ensures.front_len c.as_chunks.ensures.back (c.are_clear.ensures c.if-not-are_clear.false) c.in_default-find.ensures c.in_err-by_blocks.ensures
 
 pub returns : goal.returns
-returns c =
-    let l = c.args.bytes.now in
-    let i = c.args.from in
-    let to = c.args.to in
-    let words : Passed line_feed i to (i + 24) l =
-    words_passed l i to c.requires.1 (omega arith) c.is_clear.ensures c.is_clear-2.ensures c.is_clear-3.ensures c.if-not-is_clear.false in
-    let near = passed_more line_feed l i to c.requires.1 words {next = i + 28} (omega arith) (omega arith) (none_found line_feed l (i + 24) c.find-near.ensures c.if-near-from.false) in
-    found_behind line_feed l i to c.requires.1 near c.by_blocks.ensures
+returns c = found_far c.args.bytes.now c.in-Some.near.now c.in-Some.rest.now c.in-Some.ensures.cases.0 c.in-Some.ensures.cases.1 c.in-Some.ensures.cases.2 c.as_chunks.ensures.front c.as_chunks.ensures.front_len c.as_chunks.ensures.back (c.are_clear.ensures c.if-not-are_clear.false) c.in_default-find.ensures c.in_ok-by_blocks.ensures
