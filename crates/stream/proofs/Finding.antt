@@ -1,6 +1,6 @@
 -- The first line feed among some bytes, looked for in parts; and eight bytes tested for a line feed as one word. Assumes nothing.
 use mathlib.Core.Path.{◌≡◌, refl, sym, ap, ◌∙◌, subst}
-use mathlib.Core.Bool.{Bool, true, false, ◌&&◌}
+use mathlib.Core.Bool.{Bool, true, false}
 use mathlib.Core.List.{List, [], ◌∷◌, ◌++◌}
 use Prim.Native.Nat.{ℕ, zero, suc, ◌+◌, ◌-◌, ◌*◌, ◌/◌, ◌<◌, ◌≤◌}
 use native.Mathlib.Omega.{arith}
@@ -8,7 +8,6 @@ use lib.Bits.{bit_and, bit_xor, and_block, xor_block, and_le_r, xor_lt}
 use lib.Dec.{eqb, ltb}
 use lib.ListN.{length, get_or, take, drop, length-append, length-take, length-drop, take-append-drop}
 use lib.Seq.{take_all, take-add, drop-drop, length-take-le}
-use borrow.Author.Count.{below_more}
 use borrow.Author.Tests.{eqb-true}
 use Rattle.std.specs.Prelude.{cond, slice_range, Some, None}
 use Rattle.std.specs.Option.{unwrap_or}
@@ -18,7 +17,7 @@ use Rattle.std.specs.Simd.{first_chunks}
 use Rattle.std.proofs.lemmas.Bool.{lt-ltb, ltb-true, ltb-false}
 use Rattle.std.proofs.lemmas.List.{drop-take}
 use Rattle.std.proofs.lemmas.List.Quantifiers.{position-Some}
-use Rattle.whole.proofs.Bools.{both, by_test}
+use Rattle.whole.proofs.Bools.{by_test}
 use Rattle.kinds.proofs.Bytes.{at}
 use Rattle.line.specs.Line.{line_feed}
 use Rattle.stream.specs.Inside.{first_feed, Clear, AllClear}
@@ -152,18 +151,12 @@ all_clear k (suc n) l h clear =
     let rest = all_clear k n (drop k l) (omega (arith, length-drop k l)) (λ j d m. clear (suc j) d (omega arith)) in
     subst (λ (j : ℕ). Clear (take j l)) e (further l k (omega arith) (clear 0 [] (omega arith)) (n * k) rest)
 
--- an element that is there, whatever stands for one that is not
-same_at : (xs : List (List ℕ)) (i : ℕ) (d e : List ℕ) → i < length xs → get_or xs i d ≡ get_or xs i e
-same_at [] i d e h = absurd (omega arith)
-same_at (x ∷ xs) zero d e h = refl
-same_at (x ∷ xs) (suc i) d e h = same_at xs i d e (omega arith)
-
 -- words that were tested, and one more
-pub tested_more : (ws : List (List ℕ)) (i : ℕ) (a b : Bool) (d : List ℕ) → i < length ws → (a ≡ true → (k : ℕ) (d : List ℕ) → k < i → Clear (get_or ws k d)) → (b ≡ true → Clear (get_or ws i d))
-    → (a && b) ≡ true → (k : ℕ) (f : List ℕ) → k < i + 1 → Clear (get_or ws k f)
-tested_more ws i a b d less before here e k f less-k =
-    let p = both a b e in
-    below_more (λ (k : ℕ). Clear (get_or ws k f)) i (λ k h. before p.0 k f h) (subst (λ (w : List ℕ). Clear w) (same_at ws i d f less) (here p.1)) k less-k
+pub tested_next : (ws : List (List ℕ)) (w : List ℕ) → AllClear ws → Clear w → AllClear (ws ++ w ∷ [])
+tested_next [] w all clear zero d h = clear
+tested_next [] w all clear (suc k) d h = absurd (omega arith)
+tested_next (v ∷ ws) w all clear zero d h = all zero d (omega arith)
+tested_next (v ∷ ws) w all clear (suc k) d h = tested_next ws w (λ j d m. all (suc j) d (omega arith)) clear k d (omega arith)
 
 pub words_clear : (l : List ℕ) {words : List (List ℕ)} (n : ℕ) → length l / 8 ≡ n → words ≡ first_chunks 8 (length l / 8) l → AllClear words → Clear (take (n * 8) l)
 words_clear l n is-n is_words clear =

@@ -1,5 +1,5 @@
 -- What the private functions of this crate promise one another.
-use Rattle.std.specs.Prelude.{◌≡◌, List, [], ◌∷◌, ℕ, zero, suc, eqb, Option, None, All}
+use Rattle.std.specs.Prelude.{◌≡◌, List, ℕ, zero, suc, eqb, Option, None, All}
 use Rattle.std.specs.List.{position}
 use Rattle.line.specs.Line.{line_feed}
 

@@ -11,7 +11,8 @@ ghost use Rattle.stream.specs.Inside.{first_feed, Clear, AllClear, end_for};
 use kinds::Refusal;
 use line::{Form, LINE, WAYPOINT};
 
-// The first bytes of a line whose line feed has not come. Of a longer line 27 are kept, which are refused as it is.
+// The first bytes of a line whose line feed has not come, in fixed memory: no heap. Of a longer line 27 are kept, which are refused as
+// it is.
 #[derive(Clone, Copy)]
 pub struct Begun {
     bytes: [u8; KEPT],
@@ -206,15 +207,13 @@ fn find(bytes: &[u8]) -> Option<usize>
     bytes.iter().position(|byte| *byte == b'\n')
 }
 
-// That no line feed is in some words. None is passed over where one has a line feed, so that they are tested together.
+// That no line feed is in some words. Each is tested, whatever the others say: so the compiler tests two at a time.
 fn are_clear(words: &[[u8; WORD]]) -> bool
     ensures { result ≡ true → AllClear words.now }
 {
-    let mut clear = true;
-    for word in words {
-        clear &= is_clear(*word);
-    }
-    clear
+    words
+        .iter()
+        .fold(true, |clear, word| clear & is_clear(*word))
 }
 
 // That no line feed is in a word; where 0x8A is in it, which is a line feed with a bit more, this is not said either. The first
@@ -243,7 +242,7 @@ fn extended(begun: Begun, more: &[u8]) -> Begun
     ensures { result ≡ kept (held begun ++ more.now) }
 {
     let held = begun.bytes;
-    // no state that this crate makes has a higher count
+    // no state that this crate makes has a higher count; a ghost field that says so would want its proof in `kept` of specs/
     let first = begun.count.min(KEPT);
     let mut bytes = [0; KEPT];
     kinds::copy(&held[..first], &mut bytes);
