@@ -41,7 +41,7 @@ pub fn floating(code: i64, latitude: i64, longitude: i64) -> Answer
     }
 }
 
-// dLat in seconds, or N in metres; 0 where the point is refused.
+// dLat in seconds, or N in metres; 0 where the point is refused. Three functions, and not one of a place: C has a name for each.
 pub fn first(code: i64, latitude: i64, longitude: i64) -> f64
     ensures { result ≡ first_of float_zero (floating_of code latitude longitude) }
 {

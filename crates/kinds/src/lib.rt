@@ -2,7 +2,7 @@
 // angle, and height; why a call is refused; and a text put into a lent buffer. Outside this crate a kind is made by `new`, which
 // tests a raw number (a shift and a height also by `from` 4 bytes, any of which are one; a WGS 84 position also by
 // `shifted`, which does not test), and read by a method: code that takes one kind, or a bare number, for another kind does not
-// build.
+// build. Each is a tuple struct with limits and a constructor of its own, and they are not made of one: document 01 names this form.
 #![tactic(auto)]
 
 ghost use Rattle.std.specs.Prelude.{◌≡◌, ◌≤◌, ◌++◌, drop, length};

@@ -266,6 +266,7 @@ fn answer<W: Write>(
     let mut next = reading;
     let mut from = 0;
     let mut handed = 0;
+    // no `for`: each turn goes on by what was taken
     while from < piece.len() {
         let fed = stream::feed(next, &piece[from..], output);
         let put = fed.put;

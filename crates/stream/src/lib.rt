@@ -102,6 +102,7 @@ pub fn feed(reading: Reading, bytes: &[u8], out: &mut [u8]) -> Fed
     let mut lines = out.len() / WAYPOINT;
     let mut from = 0;
     let mut put = 0;
+    // no `for`: each turn goes on after a line feed that it finds
     'lines: loop {
         let to = end_for(lines, from, most);
         let rest = &bytes[from..to];

@@ -31,6 +31,7 @@ fn count<R: Read>(questions: &mut R) -> io::Result<usize> {
 // Reads until a buffer is full or the input ends. What no byte came for stays as it was.
 pub fn fill<R: Read>(questions: &mut R, read: &mut [u8]) -> io::Result<()> {
     let mut done = 0;
+    // no `for`: each turn goes on by what was read
     while done < read.len() {
         let n = questions.read(&mut read[done..])?;
         if n == 0 {

@@ -21,12 +21,7 @@ const HALF_TURN: i64 = 180_000_000_000;
 // nothing but the element, with no line feed. Refused, in this order, with 4 where there is no such code, 5 of a geoid datum, 3
 // where a coordinate is out of range, 6 outside the datum's area, 7 where out is shorter than the element.
 // waypoint(1, 126_000_000, 118_800_000, out), the centre of code 1, writes `<wpt lat="34.998932533" lon="32.999693628"/>`.
-pub fn waypoint(
-    code: i64,
-    latitude: i64,
-    longitude: i64,
-    out: &mut [u8],
-) -> Result<usize, Refusal>
+pub fn waypoint(code: i64, latitude: i64, longitude: i64, out: &mut [u8]) -> Result<usize, Refusal>
     ensures result_value { written result ≡ counted (waypoint_of code latitude longitude (length out.old)) }
     ensures out_after { out.new ≡ lent (waypoint_of code latitude longitude (length out.old)) out.old }
 {
