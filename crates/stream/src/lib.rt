@@ -243,7 +243,7 @@ fn extended(begun: Begun, more: &[u8]) -> Begun
     ensures { result ≡ kept (held begun ++ more.now) }
 {
     let held = begun.bytes;
-    // no state that this crate makes has a higher count; a ghost field that says so would want its proof in `kept` of specs/
+    // no state that this crate makes has a higher count; a ghost field for it would put a proof in specs/, and Begun in a file apart
     let first = begun.count.min(KEPT);
     let mut bytes = [0; KEPT];
     kinds::copy(&held[..first], &mut bytes);
