@@ -262,7 +262,7 @@ TOOLS = ('cat', 'dd', 'dirname', 'grep', 'readlink', 'sed', 'sh', 'tee', 'uname'
 # What rt run says of a proof, in the crate's folder.
 SAYS = [
     'rt: whole: begins with what a check kept in /elsewhere/crates/whole', 'rt: chose --jobs 2 for whole', 'struct whole::Parts: proved',
-    'fn whole::size: proved', 'note: src/main.rt:1:1: what it is', 'logic /kit/antt-project.json: libraries=16', 'crate whole: checked=0',
+    'fn whole::nearest: proved', 'note: src/main.rt:1:1: what it is', 'logic /kit/antt-project.json: libraries=16', 'crate whole: checked=0',
     'statements core: modules loaded=222 checked=0', 'logic=proved functions=6', 'rt: chose --jobs 2 for lines', 'fn lines::main: proved',
     'library whole: modules loaded=0 checked=0', 'axioms libc: none reached of the 128 declared', 'logic=proved functions=1 axioms=2',
     'linked target=x86_64-unknown-linux-gnu', 'rt: running out/lines; to give it other input, run that file yourself',
