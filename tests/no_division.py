@@ -14,9 +14,9 @@ import sys
 import program
 
 PAGES = 'crates/test_pages/out/test_pages'
-# The function into which the compiler puts whole::rounded and scaled, all with literal divisors, with equation::sum and what is
+# The functions into which the compiler puts whole::rounded and scaled, all with literal divisors, with equation::sum and what is
 # asked of each datum's tables.
-HOT = ['tables::Datum::values']
+HOT = ['tables::Datum::shift', 'tables::Datum::geoid']
 
 
 def functions(path):

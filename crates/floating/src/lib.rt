@@ -62,7 +62,7 @@ pub fn third(code: i64, latitude: i64, longitude: i64) -> f64
     floating(code, latitude, longitude).values()[2]
 }
 
-// The number of the point's refusal, or 0 where it is answered.
+// The number of the point's refusal, or 0 where it is answered: C takes this number.
 pub fn refusal(code: i64, latitude: i64, longitude: i64) -> u8
     ensures { result ≡ refusal_of (floating_of code latitude longitude) }
 {

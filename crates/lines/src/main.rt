@@ -185,6 +185,7 @@ fn read_all<R: Read, W: Write>(
 {
     let mut reading = Reading::start(form);
     let mut handed = 0;
+    // no `for`: how many turns there are is known by the last read
     loop {
         let turn = read(reading, reader, writer, input, output)?;
         reading = turn.reading;

@@ -50,7 +50,8 @@ fn all_listed(points: &[[u8; layout::POINT]], listed: [bool; 256]) -> bool
     points.iter().all(|point| listed[point[0] as usize])
 }
 
-// The record of a point in a result: the number of its refusal, or 0, and three values.
+// The record of a point in a result: the number of its refusal, or 0, and three values. A number, since it is the record's first
+// byte.
 fn in_record(refusal: u8, first: i32, second: i32, third: i32) -> [u8; RECORD]
     ensures { result ≡ record_of refusal first second third }
 {
