@@ -2,9 +2,6 @@
 use mathlib.Core.Path.{◌≡◌, refl, sym, ap, ◌∙◌, subst}
 use mathlib.Core.Bool.{Bool, true, false}
 use lib.IntN.{ℤ}
-use mir.Syntax.{w64}
-use mir.Val.{SFits, to_z, of_z}
-use Rattle.whole.proofs.Words.{of}
 use Rattle.kinds.specs.Answer.{Answer, gives, refused, provided}
 use Rattle.kinds.proofs.Answers.{passed, failed, same_value}
 use Rattle.kinds.specs.Kinds.{is_position}
@@ -21,10 +18,6 @@ use Rattle.datum.specs.Inside.{coded_as, is_of}
 
 abbrev code_page : ℤ → Answer Page
 code_page code = provided (is_code code) 4 (gives (page_of code))
-
--- what `coded` told of the code, which reads it back from its word
-pub coded_page : {code : ℤ} {a : Answer Page} → SFits w64 code → a ≡ code_page (to_z w64 (of_z w64 code)) → code_page code ≡ a
-coded_page f e = ap code_page (sym (of f).reads) ∙ sym e
 
 -- a call that asks of a family
 module _ (family : Family Equation → Bool) (code latitude longitude : ℤ) where
@@ -62,17 +55,12 @@ pub worked_shift : (f : Equation → ℤ) (e : Family Equation) → is_shift (of
 worked_shift f (shift a b c) = refl
 worked_shift f (geoid n) = refl
 
--- what a call that makes a position told, of the numbers as they came
-pub positioned : (call : ℤ → ℤ → Answer (ℤ × ℤ)) {latitude longitude : ℤ} → SFits w64 latitude → SFits w64 longitude → {a : Answer (ℤ × ℤ)}
-    → a ≡ call (to_z w64 (of_z w64 latitude)) (to_z w64 (of_z w64 longitude)) → call latitude longitude ≡ a
-positioned call b l e = sym (e ∙ (λ i. call ((of b).reads i) ((of l).reads i)))
-
 -- ---- the family
 -- what a call that asks of a family told of the code
-pub told : (family : Family Equation → Bool) {code : ℤ} {page : Page} → SFits w64 code → gives page ≡ coded_as family (to_z w64 (of_z w64 code))
+pub told : (family : Family Equation → Bool) (code : ℤ) {page : Page} → gives page ≡ coded_as family code
     → (family page.equations ≡ true) × (code_page code ≡ gives page)
-told family {code} {page} f e =
-    let p = passed (is_code code) 4 (provided (family (page_of code).equations) 5 (gives (page_of code))) (ap (coded_as family) (sym (of f).reads) ∙ sym e) in
+told family code {page} e =
+    let p = passed (is_code code) 4 (provided (family (page_of code).equations) 5 (gives (page_of code))) (sym e) in
     let q = passed (family (page_of code).equations) 5 (gives (page_of code)) p.1 in
     (subst (λ (x : Page). family x.equations ≡ true) (same_value q.1) q.0, (λ i. provided (p.0 i) 4 (gives (page_of code))) ∙ q.1)
 

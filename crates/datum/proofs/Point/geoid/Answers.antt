@@ -7,32 +7,31 @@ use Rattle.kinds.proofs.Answers.{handed_on}
 use Rattle.tables.specs.Page.{geoid, is_geoid}
 use Rattle.tables.specs.Inside.{datum_page}
 use Rattle.datum.specs.Cases.{geoid_says}
-use Rattle.datum.specs.Inside.{located}
 use Rattle.datum.proofs.Points.{inside, works, refuses}
-use Rattle.datum.proofs.Calls.{right, told, positioned}
-use Rattle.datum.proofs.geoid.Goals as goal
+use Rattle.datum.proofs.Calls.{right, told}
+use Rattle.datum.proofs.Point.geoid.Goals as goal
 
 pub geoid-requires : goal.geoid-requires
 geoid-requires c =
     let page = datum_page c.in_ok-datum.datum in
     record {
-      family = (told is_geoid c.ranges.code c.in_ok-datum.ensures).0;
-      inside = inside page c.args.latitude c.args.longitude (positioned (located page) c.ranges.latitude c.ranges.longitude c.in_ok-position.ensures);
+      family = (told is_geoid c.args.self.code c.in_ok-datum.ensures).0;
+      inside = inside page c.args.self.latitude c.args.self.longitude (sym c.in_ok-position.ensures);
     }
 
 pub returns : goal.returns
 returns c =
     let page = datum_page c.in_ok-datum.datum in
-    let t = told is_geoid c.ranges.code c.in_ok-datum.ensures in
+    let t = told is_geoid c.args.self.code c.in_ok-datum.ensures in
     let fn : SFits w32 c.geoid.result = search rules in
     ap gives (ap geoid (c.from.ensures ∙ (of fn).reads) ∙ c.geoid.ensures)
-    ∙ sym (works page c.args.latitude c.args.longitude (positioned (located page) c.ranges.latitude c.ranges.longitude c.in_ok-position.ensures))
-    ∙ right is_geoid c.args.code c.args.latitude c.args.longitude page t.0 t.1
+    ∙ sym (works page c.args.self.latitude c.args.self.longitude (sym c.in_ok-position.ensures))
+    ∙ right is_geoid c.args.self.code c.args.self.latitude c.args.self.longitude page t.0 t.1
 
 pub returns-in_err-position : goal.returns-in_err-position
 returns-in_err-position c =
     let page = datum_page c.in_ok-datum.datum in
-    let t = told is_geoid c.ranges.code c.in_ok-datum.ensures in
+    let t = told is_geoid c.args.self.code c.in_ok-datum.ensures in
     handed_on geoid_says c.from_residual-in_err-position.result _ c.from_residual-in_err-position.ensures.1
-    ∙ sym (refuses page c.args.latitude c.args.longitude _ (positioned (located page) c.ranges.latitude c.ranges.longitude c.in_err-position.ensures))
-    ∙ right is_geoid c.args.code c.args.latitude c.args.longitude page t.0 t.1
+    ∙ sym (refuses page c.args.self.latitude c.args.self.longitude _ (sym c.in_err-position.ensures))
+    ∙ right is_geoid c.args.self.code c.args.self.latitude c.args.self.longitude page t.0 t.1

@@ -8,9 +8,8 @@ use Rattle.tables.specs.Rule.{enclosed, in_box}
 use Rattle.tables.specs.Inside.{datum_page, frame_of}
 use Rattle.tables.specs.declared.Frame.{Frame}
 use Rattle.datum.specs.Inside.{ranged}
-use Rattle.datum.proofs.Calls.{positioned}
 use Rattle.datum.proofs.Points.{out_of_box, in_box_lem}
-use Rattle.datum.proofs.located.Goals as goal
+use Rattle.datum.proofs.Point.located.Goals as goal
 
 -- p and q are the numbers of the position that was made, and holds is whether the page's frame holds it
 module _ (page : Page) (latitude longitude p q : ℤ) (told : ranged latitude longitude ≡ gives (p, q)) where
@@ -26,14 +25,12 @@ module _ (page : Page) (latitude longitude p q : ℤ) (told : ranged latitude lo
 pub returns-then-is_inside : goal.returns-then-is_inside
 returns-then-is_inside c =
     let page = datum_page c.args.datum in
-    let told = positioned ranged c.ranges.latitude c.ranges.longitude c.in_ok-position.ensures in
-    let m = made page c.args.latitude c.args.longitude _ _ told in
+    let m = made page c.args.self.latitude c.args.self.longitude _ _ (sym c.in_ok-position.ensures) in
     ap gives (sym m.1)
-    ∙ sym (in_box_lem page c.args.latitude c.args.longitude m.0 (box page c.args.latitude c.args.longitude _ _ told _ c.frame-frame.ensures c.holds-is_inside.ensures c.if-is_inside.true))
+    ∙ sym (in_box_lem page c.args.self.latitude c.args.self.longitude m.0 (box page c.args.self.latitude c.args.self.longitude _ _ (sym c.in_ok-position.ensures) _ c.frame-frame.ensures c.holds-is_inside.ensures c.if-is_inside.true))
 
 pub returns-else-is_inside : goal.returns-else-is_inside
 returns-else-is_inside c =
     let page = datum_page c.args.datum in
-    let told = positioned ranged c.ranges.latitude c.ranges.longitude c.in_ok-position.ensures in
-    let m = made page c.args.latitude c.args.longitude _ _ told in
-    sym (out_of_box page c.args.latitude c.args.longitude m.0 (box page c.args.latitude c.args.longitude _ _ told _ c.frame-frame.ensures c.holds-is_inside.ensures c.if-is_inside.false))
+    let m = made page c.args.self.latitude c.args.self.longitude _ _ (sym c.in_ok-position.ensures) in
+    sym (out_of_box page c.args.self.latitude c.args.self.longitude m.0 (box page c.args.self.latitude c.args.self.longitude _ _ (sym c.in_ok-position.ensures) _ c.frame-frame.ensures c.holds-is_inside.ensures c.if-is_inside.false))
