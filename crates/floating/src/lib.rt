@@ -8,7 +8,7 @@ ghost use Rattle.datum.specs.Cases.{shift_says};
 ghost use Rattle.floating.specs.Floats.{seconds, metres, in_floats, floating_of, float_zero};
 ghost use Rattle.floating.specs.Cases.{floats_say, float_answer};
 
-use datum::{Given, Shifts};
+use datum::{Given, Point, Shifts};
 use kinds::{AngleShift, Height};
 
 // The shifts of a point: of latitude and longitude in seconds, of height in metres.
@@ -17,6 +17,19 @@ pub struct ShiftFloats {
     pub latitude: f64,
     pub longitude: f64,
     pub height: f64,
+}
+
+// Whole shifts as floats, in seconds and metres.
+impl From<Shifts> for ShiftFloats {
+    ghost from_gives = { λ shifts floats. floats_say floats ≡ in_floats (shift_says shifts) };
+
+    fn from(shifts: Shifts) -> ShiftFloats {
+        ShiftFloats {
+            latitude: seconds(shifts.latitude),
+            longitude: seconds(shifts.longitude),
+            height: metres(shifts.height),
+        }
+    }
 }
 
 // The answer of a datum of either family: its shifts, its geoid height in metres, or the number of the refusal. No `Result`:
@@ -30,43 +43,43 @@ pub enum Answer {
 
 // The shifts of the point or its geoid height, whichever its datum has. Refused, in this order, with 4 where there is no such
 // code, 3 where a coordinate is out of range, 6 outside the datum's area; never with 5.
-// floating(1, 126_000_000, 118_800_000), the centre of code 1, gives the floats nearest to -3.84288, -1.10294 and 24.43.
-pub fn floating(code: i64, latitude: i64, longitude: i64) -> Answer
-    ensures { float_answer result ≡ floating_of code latitude longitude }
+// The centre of code 1, at 126,000,000 and 118,800,000 ms, gives the floats nearest to -3.84288, -1.10294 and 24.43.
+pub fn floating(point: Point) -> Answer
+    ensures { float_answer result ≡ floating_of point.code point.latitude point.longitude }
 {
-    match datum::answer(code, latitude, longitude) {
-        Ok(Given::Shift(shifts)) => Answer::Shift(ShiftFloats::of(shifts)),
+    match point.answer() {
+        Ok(Given::Shift(shifts)) => Answer::Shift(ShiftFloats::from(shifts)),
         Ok(Given::Geoid(height)) => Answer::Geoid(metres(height)),
         Err(why) => Answer::Refused(why.number()),
     }
 }
 
 // dLat in seconds, or N in metres; 0 where the point is refused. Three functions, and not one of a place: C has a name for each.
-pub fn first(code: i64, latitude: i64, longitude: i64) -> f64
-    ensures { result ≡ first_of float_zero (floating_of code latitude longitude) }
+pub fn first(point: Point) -> f64
+    ensures { result ≡ first_of float_zero (floating_of point.code point.latitude point.longitude) }
 {
-    floating(code, latitude, longitude).values()[0]
+    floating(point).values()[0]
 }
 
 // dLon in seconds; 0 of a geoid datum, and where the point is refused.
-pub fn second(code: i64, latitude: i64, longitude: i64) -> f64
-    ensures { result ≡ second_of float_zero (floating_of code latitude longitude) }
+pub fn second(point: Point) -> f64
+    ensures { result ≡ second_of float_zero (floating_of point.code point.latitude point.longitude) }
 {
-    floating(code, latitude, longitude).values()[1]
+    floating(point).values()[1]
 }
 
 // dH in metres; 0 of a geoid datum, and where the point is refused.
-pub fn third(code: i64, latitude: i64, longitude: i64) -> f64
-    ensures { result ≡ third_of float_zero (floating_of code latitude longitude) }
+pub fn third(point: Point) -> f64
+    ensures { result ≡ third_of float_zero (floating_of point.code point.latitude point.longitude) }
 {
-    floating(code, latitude, longitude).values()[2]
+    floating(point).values()[2]
 }
 
 // The number of the point's refusal, or 0 where it is answered: C takes this number.
-pub fn refusal(code: i64, latitude: i64, longitude: i64) -> u8
-    ensures { result ≡ refusal_of (floating_of code latitude longitude) }
+pub fn refusal(point: Point) -> u8
+    ensures { result ≡ refusal_of (floating_of point.code point.latitude point.longitude) }
 {
-    match floating(code, latitude, longitude) {
+    match floating(point) {
         Answer::Shift(_) => 0,
         Answer::Geoid(_) => 0,
         Answer::Refused(number) => number,
@@ -86,19 +99,7 @@ impl Answer {
     }
 }
 
-impl ShiftFloats {
-    // Whole shifts as floats, in seconds and metres.
-    pub fn of(shifts: Shifts) -> ShiftFloats
-        ensures { floats_say result ≡ in_floats (shift_says shifts) }
-    {
-        ShiftFloats {
-            latitude: seconds(shifts.latitude),
-            longitude: seconds(shifts.longitude),
-            height: metres(shifts.height),
-        }
-    }
-}
-
+// Two functions, and not one of a number and a divisor: each takes one kind, so that a height in seconds does not build.
 fn seconds(shift: AngleShift) -> f64
     ensures { result ≡ seconds shift.0 }
 {

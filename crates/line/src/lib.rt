@@ -11,7 +11,7 @@ ghost use Rattle.waypoint.specs.Inside.{Printable};
 ghost use Rattle.line.specs.Line.{line_feed, answer_line, line_of, line_in};
 ghost use Rattle.line.specs.Inside.{place_says, place_answer, point_said, first_refusal, answered_of, waypoint_put, answered_in};
 
-use datum::{Given, Shifts};
+use datum::{Given, Point, Shifts};
 use decimal::number_and;
 use kinds::{Height, LocalLatitude, LocalLongitude, Refusal, Wgs84Position, put};
 use waypoint::ELEMENT;
@@ -58,6 +58,21 @@ struct Place {
     code: i64,
     latitude: LocalLatitude,
     longitude: LocalLongitude,
+}
+
+impl Place {
+    // As raw numbers.
+    fn point(self) -> Point
+        ensures code_value { result.code ≡ self.code }
+        ensures latitude_value { result.latitude ≡ self.latitude.0 }
+        ensures longitude_value { result.longitude ≡ self.longitude.0 }
+    {
+        Point {
+            code: self.code,
+            latitude: i64::from(self.latitude.ms()),
+            longitude: i64::from(self.longitude.ms()),
+        }
+    }
 }
 
 // Reads a line, whatever its code and its place.
@@ -118,11 +133,8 @@ fn converted(place: Place, out: &mut [u8]) -> Result<usize, Refusal>
     ensures result_value { written result ≡ counted (waypoint_put (place_says place) (length out.old)) }
     ensures out_after { out.new ≡ lent (waypoint_put (place_says place) (length out.old)) out.old }
 {
-    let position = datum::wgs84(
-        place.code,
-        place.latitude.ms() as i64,
-        place.longitude.ms() as i64,
-    )?;
+    let point = place.point();
+    let position = point.wgs84()?;
     put_waypoint(position, out)
 }
 
@@ -142,11 +154,8 @@ fn in_numbers(place: Place, out: &mut [u8]) -> Result<usize, Refusal>
     ensures result_value { written result ≡ counted (answered_of (place_says place) (length out.old)) }
     ensures out_after { out.new ≡ lent (answered_of (place_says place) (length out.old)) out.old }
 {
-    let given = datum::answer(
-        place.code,
-        place.latitude.ms() as i64,
-        place.longitude.ms() as i64,
-    )?;
+    let point = place.point();
+    let given = point.answer()?;
     match given {
         Given::Shift(shifts) => put_shift(shifts, out),
         Given::Geoid(height) => put_geoid(height, out),

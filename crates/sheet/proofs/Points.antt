@@ -18,6 +18,7 @@ use Rattle.kinds.specs.declared.Height.{Height}
 use Rattle.kinds.specs.declared.Refusal.{Refusal}
 use Rattle.datum.specs.Point.{answer_of}
 use Rattle.datum.specs.Cases.{shift_says, geoid_says}
+use Rattle.datum.specs.declared.Point.{Point}
 use Rattle.datum.specs.declared.Shifts.{Shifts}
 use Rattle.tables.specs.Page.{Family}
 use Rattle.numbers.specs.Numbers.{number, in_bytes, complement, signed}
@@ -50,17 +51,11 @@ pub refused_record : (r : Refusal) → record_of (number_of r) (pos 0) (pos 0) (
 unfolding record_of in_record
 refused_record r = refl
 
--- a call on the numbers that 9 bytes say
-module _ (t : List ℕ) {code longitude : ℕ} {latitude : ℤ}
-    (coded : code ≡ number (part 0 1 t)) (one : code < 256)
-    (is-latitude : latitude ≡ signed (number (part 1 4 t))) (fits : SFits w64 latitude)
-    (is-longitude : longitude ≡ number (part 5 4 t)) (four : longitude < 4294967296) where
-  pub point_record_is : {a : Answer (Family ℤ)} → a ≡ answer_of (to_z w64 code) (to_z w64 (of_z w64 latitude)) (to_z w64 longitude) → in_record a ≡ point_record t
-  unfolding point_record point
-  point_record_is e =
-      let c : to_z w64 code ≡ pos (number (part 0 1 t)) = (from_unsigned {w = w64} {n = code} (omega arith)).reads ∙ ap pos coded in
-      let l : to_z w64 longitude ≡ pos (number (part 5 4 t)) = (from_unsigned {w = w64} {n = longitude} (omega arith)).reads ∙ ap pos is-longitude in
-      ap in_record (e ∙ (λ i. answer_of (c i) (((of fits).reads ∙ is-latitude) i) (l i)))
+-- an answer of the point that 9 bytes say
+module _ (t : List ℕ) {p : Point} (code : p.code ≡ pos (point t).code) (latitude : p.latitude ≡ (point t).latitude) (longitude : p.longitude ≡ pos (point t).longitude) where
+  pub point_record_is : {a : Answer (Family ℤ)} → a ≡ answer_of p.code p.latitude p.longitude → in_record a ≡ point_record t
+  unfolding point_record
+  point_record_is e = ap in_record (e ∙ (λ i. answer_of (code i) (latitude i) (longitude i)))
 
 -- ---- whether each code is flagged
 -- the code of a point's bytes is the first of them

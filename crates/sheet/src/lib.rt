@@ -2,14 +2,15 @@
 // point into a lent buffer.
 #![tactic(auto)]
 
-ghost use Rattle.std.specs.Prelude.{◌≡◌, true, ◌++◌, ◌+◌, ◌*◌, ◌≤◌, length, drop};
+ghost use Rattle.std.specs.Prelude.{◌≡◌, true, pos, ◌++◌, ◌+◌, ◌*◌, ◌≤◌, length, drop};
 ghost use Rattle.kinds.specs.Answer.{gives, counted, lent};
 ghost use Rattle.kinds.specs.Cases.{written};
+ghost use Rattle.layout.specs.Sheet.{point};
 ghost use Rattle.layout.specs.Layout.{laid_out};
 ghost use Rattle.sheet.specs.Result.{record_length, work_of};
 ghost use Rattle.sheet.specs.Inside.{flags, all_flagged, record_of, point_record, records, finished};
 
-use datum::Given;
+use datum::{Given, Point};
 use kinds::Refusal;
 use layout::Layout;
 
@@ -38,7 +39,7 @@ fn listed(codes: &[u8]) -> [bool; 256]
 {
     let mut flags = [false; 256];
     for &code in codes {
-        flags[code as usize] = true;
+        flags[usize::from(code)] = true;
     }
     flags
 }
@@ -47,7 +48,7 @@ fn listed(codes: &[u8]) -> [bool; 256]
 fn all_listed(points: &[[u8; layout::POINT]], listed: [bool; 256]) -> bool
     ensures { result ≡ all_flagged listed points.now }
 {
-    points.iter().all(|point| listed[point[0] as usize])
+    points.iter().all(|point| listed[usize::from(point[0])])
 }
 
 // The record of a point in a result: the number of its refusal, or 0, and three values. A number, since it is the record's first
@@ -63,13 +64,26 @@ fn in_record(refusal: u8, first: i32, second: i32, third: i32) -> [u8; RECORD]
     record
 }
 
-// The record of the point that 9 bytes of a sheet say.
-fn point_record(point: &[u8; layout::POINT]) -> [u8; RECORD]
-    ensures { result ≡ point_record point.now }
+// The point that 9 bytes of a sheet say.
+#[tactic(auto, unfolding(layout::specs::Sheet::point))]
+fn point(bytes: &[u8; layout::POINT]) -> Point
+    ensures code_value { result.code ≡ pos (point bytes.now).code }
+    ensures latitude_value { result.latitude ≡ (point bytes.now).latitude }
+    ensures longitude_value { result.longitude ≡ pos (point bytes.now).longitude }
 {
-    let latitude = numbers::signed(numbers::four(point, 1));
-    let longitude = numbers::four(point, 5) as i64;
-    match datum::answer(numbers::one(point, 0) as i64, latitude, longitude) {
+    Point {
+        code: i64::from(numbers::one(bytes, 0)),
+        latitude: numbers::signed(numbers::four(bytes, 1)),
+        longitude: i64::from(numbers::four(bytes, 5)),
+    }
+}
+
+// Its record.
+fn point_record(bytes: &[u8; layout::POINT]) -> [u8; RECORD]
+    ensures { result ≡ point_record bytes.now }
+{
+    let asked = point(bytes);
+    match asked.answer() {
         Ok(Given::Shift(shifts)) => in_record(
             0,
             shifts.latitude.units(),

@@ -8,6 +8,7 @@ ghost use Rattle.decimal.specs.Decimal.{nine_places};
 ghost use Rattle.waypoint.specs.Waypoint.{degrees, east_or_west, element, waypoint_of};
 ghost use Rattle.waypoint.specs.Inside.{Printable};
 
+use datum::Point;
 use decimal::nine_places;
 use kinds::{Refusal, Wgs84Latitude, Wgs84Longitude, Wgs84Position, put};
 
@@ -17,15 +18,15 @@ pub const ELEMENT: usize = 47;
 // billionths of a degree
 const HALF_TURN: i64 = 180_000_000_000;
 
-// Writes the waypoint of a point of codes 1 to 4, by its latitude and longitude on the local datum in ms, to the start of out:
-// nothing but the element, with no line feed. Refused, in this order, with 4 where there is no such code, 5 of a geoid datum, 3
-// where a coordinate is out of range, 6 outside the datum's area, 7 where out is shorter than the element.
-// waypoint(1, 126_000_000, 118_800_000, out), the centre of code 1, writes `<wpt lat="34.998932533" lon="32.999693628"/>`.
-pub fn waypoint(code: i64, latitude: i64, longitude: i64, out: &mut [u8]) -> Result<usize, Refusal>
-    ensures result_value { written result ≡ counted (waypoint_of code latitude longitude (length out.old)) }
-    ensures out_after { out.new ≡ lent (waypoint_of code latitude longitude (length out.old)) out.old }
+// Writes the waypoint of a point of codes 1 to 4 to the start of out: nothing but the element, with no line feed. Refused, in this
+// order, with 4 where there is no such code, 5 of a geoid datum, 3 where a coordinate is out of range, 6 outside the datum's area,
+// 7 where out is shorter than the element.
+// The centre of code 1, at 126,000,000 and 118,800,000 ms, gives `<wpt lat="34.998932533" lon="32.999693628"/>`.
+pub fn waypoint(point: Point, out: &mut [u8]) -> Result<usize, Refusal>
+    ensures result_value { written result ≡ counted (waypoint_of point.code point.latitude point.longitude (length out.old)) }
+    ensures out_after { out.new ≡ lent (waypoint_of point.code point.latitude point.longitude (length out.old)) out.old }
 {
-    let position = datum::wgs84(code, latitude, longitude)?;
+    let position = point.wgs84()?;
     put_element(position, out)
 }
 

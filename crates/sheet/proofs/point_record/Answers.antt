@@ -4,7 +4,6 @@ use lib.Signed.{mag}
 use mir.Syntax.{w32}
 use mir.Val.{hbits, to_z, of_z}
 use Rattle.whole.proofs.Words.{of}
-use Rattle.numbers.specs.Numbers.{signed}
 use Rattle.sheet.specs.Inside.{record_of}
 use Rattle.sheet.proofs.Points.{shift_record, geoid_record, refused_record, point_record_is}
 use Rattle.sheet.proofs.point_record.Goals as goal
@@ -18,21 +17,18 @@ returns-in-Ok-Shift c =
     c.in_record.ensures
     ∙ (λ i. record_of 0 (field c.units.type_inv c.units.ensures i) (field c.units-in-Ok-Shift.type_inv c.units-in-Ok-Shift.ensures i) (field c.mm.type_inv c.mm.ensures i))
     ∙ shift_record _
-    ∙ point_record_is _ c.one.ensures.value c.one.ensures.upper_bound (c.signed-latitude.ensures ∙ ap signed c.four.ensures) (record { sfits = c.signed-latitude.type_inv })
-    c.four-longitude.ensures c.four-longitude.type_inv (rw c.in-Ok-Shift.field-0-is at c.in-Ok-Shift.ensures)
+    ∙ point_record_is _ c.point-asked.ensures.code_value c.point-asked.ensures.latitude_value c.point-asked.ensures.longitude_value (rw c.in-Ok-Shift.field-0-is at c.in-Ok-Shift.ensures)
 
 pub returns-in-Ok-Geoid : goal.returns-in-Ok-Geoid
 returns-in-Ok-Geoid c =
     c.in_record-in-Ok-Geoid.ensures
     ∙ ap (λ (x : ℤ). record_of 0 x (pos 0) (pos 0)) (field c.mm-in-Ok-Geoid.type_inv c.mm-in-Ok-Geoid.ensures)
     ∙ geoid_record _
-    ∙ point_record_is _ c.one.ensures.value c.one.ensures.upper_bound (c.signed-latitude.ensures ∙ ap signed c.four.ensures) (record { sfits = c.signed-latitude.type_inv })
-    c.four-longitude.ensures c.four-longitude.type_inv (rw c.in-Ok-Geoid.field-0-is at c.in-Ok-Geoid.ensures)
+    ∙ point_record_is _ c.point-asked.ensures.code_value c.point-asked.ensures.latitude_value c.point-asked.ensures.longitude_value (rw c.in-Ok-Geoid.field-0-is at c.in-Ok-Geoid.ensures)
 
 pub returns-in-Err : goal.returns-in-Err
 returns-in-Err c =
     c.in_record-in-Err.ensures
     ∙ ap (λ (n : ℕ). record_of n (pos 0) (pos 0) (pos 0)) c.number.ensures
     ∙ refused_record c.in-Err.why
-    ∙ point_record_is _ c.one.ensures.value c.one.ensures.upper_bound (c.signed-latitude.ensures ∙ ap signed c.four.ensures) (record { sfits = c.signed-latitude.type_inv })
-    c.four-longitude.ensures c.four-longitude.type_inv c.in-Err.ensures
+    ∙ point_record_is _ c.point-asked.ensures.code_value c.point-asked.ensures.latitude_value c.point-asked.ensures.longitude_value c.in-Err.ensures
