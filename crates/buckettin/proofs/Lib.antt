@@ -1,6 +1,6 @@
 -- The laws, by what they are about.
--- a call's result of 4 bytes, as a field
-pub mod Numbers
+-- C's three numbers, made a point
+pub mod Points
 -- what a call says that it wrote fits 4 bytes
 pub mod Counts
 -- what C's numbers tell of an answer
