@@ -1,5 +1,5 @@
 // The answers as floats, by their bits in hexadecimal.
-use datum::Shifts;
+use datum::{Point, Shifts};
 use floating::{Answer, ShiftFloats};
 use kinds::{AngleShift, Height};
 use std::io;
@@ -9,13 +9,8 @@ fn shifted<W: Write>(answers: &mut W, shift: ShiftFloats) -> io::Result<()> {
     test_show::floats(answers, shift.latitude, shift.longitude, shift.height)
 }
 
-pub(crate) fn either<W: Write>(
-    answers: &mut W,
-    code: i64,
-    latitude: i64,
-    longitude: i64,
-) -> io::Result<()> {
-    match floating::floating(code, latitude, longitude) {
+pub(crate) fn either<W: Write>(answers: &mut W, point: Point) -> io::Result<()> {
+    match floating::floating(point) {
         Answer::Shift(shift) => shifted(answers, shift),
         Answer::Geoid(height) => test_show::float(answers, height),
         Answer::Refused(number) => test_show::refusal(answers, number),
@@ -23,19 +18,11 @@ pub(crate) fn either<W: Write>(
 }
 
 // The four calls for a point.
-pub(crate) fn each<W: Write>(
-    answers: &mut W,
-    code: i64,
-    latitude: i64,
-    longitude: i64,
-) -> io::Result<()> {
-    test_show::float(answers, floating::first(code, latitude, longitude))?;
-    test_show::float(answers, floating::second(code, latitude, longitude))?;
-    test_show::float(answers, floating::third(code, latitude, longitude))?;
-    test_show::number(
-        answers,
-        i64::from(floating::refusal(code, latitude, longitude)),
-    )
+pub(crate) fn each<W: Write>(answers: &mut W, point: Point) -> io::Result<()> {
+    test_show::float(answers, floating::first(point))?;
+    test_show::float(answers, floating::second(point))?;
+    test_show::float(answers, floating::third(point))?;
+    test_show::number(answers, i64::from(floating::refusal(point)))
 }
 
 // The floats of one whole number of 4 bytes as each of the three shifts.
@@ -50,5 +37,5 @@ pub(crate) fn made<W: Write>(answers: &mut W, n: i64) -> io::Result<()> {
         longitude: angle,
         height,
     };
-    shifted(answers, ShiftFloats::of(shifts))
+    shifted(answers, ShiftFloats::from(shifts))
 }

@@ -4,7 +4,7 @@
 
 mod floats;
 
-use datum::{Given, Shifts};
+use datum::{Given, Point, Shifts};
 use std::io;
 use std::io::{Read, Write};
 
@@ -17,46 +17,48 @@ fn shifted<W: Write>(answers: &mut W, shifts: Shifts) -> io::Result<()> {
     )
 }
 
-fn either<W: Write>(answers: &mut W, code: i64, latitude: i64, longitude: i64) -> io::Result<()> {
-    match datum::answer(code, latitude, longitude) {
+fn either<W: Write>(answers: &mut W, point: Point) -> io::Result<()> {
+    match point.answer() {
         Ok(Given::Shift(shifts)) => shifted(answers, shifts),
         Ok(Given::Geoid(height)) => test_show::four_bytes(answers, height.mm()),
         Err(why) => test_show::refused(answers, why),
     }
 }
 
-fn shift<W: Write>(answers: &mut W, code: i64, latitude: i64, longitude: i64) -> io::Result<()> {
-    match datum::shift(code, latitude, longitude) {
+fn shift<W: Write>(answers: &mut W, point: Point) -> io::Result<()> {
+    match point.shift() {
         Ok(shifts) => shifted(answers, shifts),
         Err(why) => test_show::refused(answers, why),
     }
 }
 
-fn geoid<W: Write>(answers: &mut W, code: i64, latitude: i64, longitude: i64) -> io::Result<()> {
-    match datum::geoid(code, latitude, longitude) {
+fn geoid<W: Write>(answers: &mut W, point: Point) -> io::Result<()> {
+    match point.geoid() {
         Ok(height) => test_show::four_bytes(answers, height.mm()),
         Err(why) => test_show::refused(answers, why),
     }
 }
 
-fn point<W: Write>(answers: &mut W, code: i64, latitude: i64, longitude: i64) -> io::Result<()> {
-    either(answers, code, latitude, longitude)?;
-    shift(answers, code, latitude, longitude)?;
-    geoid(answers, code, latitude, longitude)?;
-    floats::either(answers, code, latitude, longitude)?;
-    floats::each(answers, code, latitude, longitude)
+fn point<W: Write>(answers: &mut W, point: Point) -> io::Result<()> {
+    either(answers, point)?;
+    shift(answers, point)?;
+    geoid(answers, point)?;
+    floats::either(answers, point)?;
+    floats::each(answers, point)
 }
 
 fn answer<R: Read, W: Write>(questions: &mut R, answers: &mut W, letter: u8) -> io::Result<()> {
     match letter {
         b'=' => test_ask::label(questions, answers),
         b'f' => floats::made(answers, test_ask::number(questions)?),
-        b'p' => point(
-            answers,
-            test_ask::number(questions)?,
-            test_ask::number(questions)?,
-            test_ask::number(questions)?,
-        ),
+        b'p' => {
+            let asked = Point {
+                code: test_ask::number(questions)?,
+                latitude: test_ask::number(questions)?,
+                longitude: test_ask::number(questions)?,
+            };
+            point(answers, asked)
+        }
         _ => Ok(()),
     }
 }

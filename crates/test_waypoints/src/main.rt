@@ -2,6 +2,7 @@
 // tests/waypoints.py asks, and works out what it must print from the papers.
 #![tactic(auto)]
 
+use datum::Point;
 use kinds::{Refusal, Wgs84Latitude, Wgs84Longitude, Wgs84Position};
 use line::Form;
 use std::io;
@@ -10,11 +11,13 @@ use stream::Reading;
 
 // The waypoint of a point, in the start of a buffer, all of which is shown.
 fn into<R: Read, W: Write>(questions: &mut R, answers: &mut W, out: &mut [u8]) -> io::Result<()> {
-    let code = test_ask::number(questions)?;
-    let latitude = test_ask::number(questions)?;
-    let longitude = test_ask::number(questions)?;
+    let point = Point {
+        code: test_ask::number(questions)?,
+        latitude: test_ask::number(questions)?,
+        longitude: test_ask::number(questions)?,
+    };
     let room = test_ask::room(questions, out)?;
-    let answer = waypoint::waypoint(code, latitude, longitude, &mut out[..room]);
+    let answer = waypoint::waypoint(point, &mut out[..room]);
     test_show::written(answers, answer)?;
     test_show::text(answers, out)
 }
