@@ -46,7 +46,7 @@ pub fn read(unit: i64, sheet: &[u8]) -> Result<Layout, Refusal>
     if serial == 0 {
         return Err(Refusal::Sheet);
     }
-    if serial as i64 != unit {
+    if i64::from(serial) != unit {
         return Err(Refusal::Foreign);
     }
     laid_out(sheet)
@@ -59,6 +59,7 @@ fn laid_out(sheet: &[u8]) -> Result<Layout, Refusal>
     if sheet.len() < CODES {
         return Err(Refusal::Length);
     }
+    // by `as`: the library has no From<u32> for usize
     let datums = numbers::one(sheet, DATUMS) as usize;
     if MOST_DATUMS < datums {
         return Err(Refusal::Sheet);

@@ -95,7 +95,7 @@ fn point_record(bytes: &[u8; layout::POINT]) -> [u8; RECORD]
     }
 }
 
-// The records of all points, at the start of out.
+// The records of all points, at the start of out. By places: of what is written through `chunks_exact_mut` a proof knows nothing.
 #[tactic(auto, using(crate::proofs::Results::no_records, crate::proofs::Results::copied, crate::proofs::Results::turn, crate::proofs::Results::turn_long))]
 fn records(points: &[[u8; layout::POINT]], out: &mut [u8])
     requires { length points.now * record_length ≤ length out.old }
