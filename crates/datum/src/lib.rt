@@ -53,6 +53,7 @@ impl Point {
     // The shift of a point of codes 1 to 4. Refused, in this order, with 4 where there is no such code, 5 of a geoid datum, 3 where
     // a coordinate is out of range, 6 outside the datum's area.
     // The centre of code 1, at 126,000,000 and 118,800,000 ms, gives -3.84288", -1.10294" and 24.430 m.
+    #[tactic(auto, using(crate::proofs::Points::inside, crate::proofs::Calls::its_family, crate::proofs::Calls::worked_is, crate::proofs::Calls::refused_is))]
     pub fn shift(self) -> Result<Shifts, Refusal>
         ensures { shift_answer result ≡ shift_of self.code self.latitude self.longitude }
     {
@@ -137,7 +138,7 @@ impl Point {
     }
 
     // The one place where a code is tested. By a match, so that no table is laid on the stack, and a call that is refused saves no
-    // registers.
+    // registers. No `TryFrom<i64>` of `Datum`, which crate `tables` alone could have, where no code is known.
     fn coded(self) -> Result<Datum, Refusal>
         ensures { datum_answer result ≡ provided (is_code self.code) 4 (gives (page_of self.code)) }
     {
