@@ -1,4 +1,4 @@
--- A point's answer by its page: what the tests say of it, what three numbers say, and where a shift leads. Assumes nothing.
+-- A point's answer by its page: what the tests say of it, and that each of its values is in 4 bytes. Assumes nothing.
 use mathlib.Core.Path.{◌≡◌, sym, ap, ◌∙◌, subst}
 use mathlib.Core.Bool.{true}
 use Prim.Native.Nat.{ℕ}

@@ -53,7 +53,6 @@ impl Point {
     // The shift of a point of codes 1 to 4. Refused, in this order, with 4 where there is no such code, 5 of a geoid datum, 3 where
     // a coordinate is out of range, 6 outside the datum's area.
     // The centre of code 1, at 126,000,000 and 118,800,000 ms, gives -3.84288", -1.10294" and 24.430 m.
-    #[tactic(auto, using(crate::proofs::Points::inside, crate::proofs::Calls::its_family, crate::proofs::Calls::worked_is, crate::proofs::Calls::refused_is))]
     pub fn shift(self) -> Result<Shifts, Refusal>
         ensures { shift_answer result ≡ shift_of self.code self.latitude self.longitude }
     {
