@@ -88,6 +88,7 @@ pub fn refusal(point: Point) -> u8
 
 impl Answer {
     // dLat, dLon and dH; or N and two zeros; or three zeros where the point is refused.
+    #[tactic(auto, using(crate::proofs::Calls::no_value))]
     fn values(self) -> [f64; 3]
         ensures { result ≡ values_of float_zero (float_answer self) }
     {
@@ -100,12 +101,14 @@ impl Answer {
 }
 
 // Two functions, and not one of a number and a divisor: each takes one kind, so that a height in seconds does not build.
+#[tactic(auto, using(crate::proofs::Calls::once_divided, crate::proofs::Calls::per_second_lem))]
 fn seconds(shift: AngleShift) -> f64
     ensures { result ≡ seconds shift.0 }
 {
     (shift.units() as f64) / AngleShift::PER_SECOND
 }
 
+#[tactic(auto, using(crate::proofs::Calls::once_divided, crate::proofs::Calls::per_metre_lem))]
 fn metres(height: Height) -> f64
     ensures { result ≡ metres height.0 }
 {

@@ -2,18 +2,14 @@
 use mathlib.Core.Path.{◌≡◌, refl, ap, ◌∙◌}
 use mathlib.Core.Bool.{Bool, false, ◌&&◌}
 use mathlib.Core.List.{List, [], ◌∷◌, flat_map}
-use Prim.Native.Nat.{ℕ, ◌<◌}
+use Prim.Native.Nat.{ℕ}
 use native.Mathlib.Omega.{arith}
 use Rattle.std.specs.List.{list_all}
 use lib.IntN.{ℤ, pos}
 use borrow.Rule.Slice.PartMut.{put_mid}
 use lib.ListN.{length, get_or, replicate}
-use mir.Syntax.{w64}
-use mir.Val.{SFits, to_z, of_z}
-use Rattle.whole.proofs.Words.{of, from_unsigned}
 use Rattle.whole.specs.Places.{in_places, from_places}
 use Rattle.kinds.specs.Answer.{Answer, gives, refused, number_of}
-use Rattle.kinds.specs.Bytes.{part}
 use Rattle.kinds.specs.declared.Height.{Height}
 use Rattle.kinds.specs.declared.Refusal.{Refusal}
 use Rattle.datum.specs.Point.{answer_of}
@@ -21,7 +17,7 @@ use Rattle.datum.specs.Cases.{shift_says, geoid_says}
 use Rattle.datum.specs.declared.Point.{Point}
 use Rattle.datum.specs.declared.Shifts.{Shifts}
 use Rattle.tables.specs.Page.{Family}
-use Rattle.numbers.specs.Numbers.{number, in_bytes, complement, signed}
+use Rattle.numbers.specs.Numbers.{number, in_bytes, complement}
 use Rattle.layout.specs.Sheet.{point}
 use Rattle.sheet.specs.Result.{in_record}
 use Rattle.sheet.specs.Inside.{all_flagged, record_of, point_record}
