@@ -50,7 +50,7 @@ def page_of(code):
 
 def coded(text, name):
     """The terms that the code holds, as many as its table is declared to have, and the comment after each."""
-    count, body = re.search(rf'^const {TABLES[name]}: \[Term; (\d+)\] = \[\n(.*?)\n\];', text, re.M | re.S).groups()
+    count, body = re.search(rf'^pub\(crate\) const {TABLES[name]}: \[Term; (\d+)\] = \[\n(.*?)\n\];', text, re.M | re.S).groups()
     found = [re.fullmatch(r'    Term\((-?[\d_]+), (\d), (\d)\), // (.*)', row) for row in body.split('\n')]
     if not all(found) or len(found) != int(count):
         raise SystemExit(f'{TABLES[name]}: a row that is no term, or another count than {count}')
@@ -104,7 +104,7 @@ def defined_frame(code, text):
 # What is compared.
 def sentence(text, name):
     """The printed equation in the comment above a table."""
-    lines = re.search(rf'((?:^// .*\n)+)const {TABLES[name]}:', text, re.M)[1].split('\n')
+    lines = re.search(rf'((?:^// .*\n)+)pub\(crate\) const {TABLES[name]}:', text, re.M)[1].split('\n')
     return re.sub(r' +', ' ', ' '.join(line[len('// '):] for line in lines if line)).split(' = ')[1].strip()
 
 
@@ -120,12 +120,14 @@ def bounds(code):
     return [int(bound) for bound in only(form, page_of(code), f'code {code}: the definition\'s line of equations and bounds')]
 
 
-def placed(code, text):
+def placed(code):
     """Each table stands under its own name, in the definition's page and in the code's call."""
     bounds(code)               # ends where the definition has it otherwise
-    tables = ', '.join(f'&{TABLES[name]}' for name, *_ in document_000.equations(code))
-    body, = only(rf'pub\(crate\) fn {family_of(code)}\(.*\n(?: .*\n)*\{{\n((?: .*\n)*)\}}', text, f'code {code}: {family_of(code)}')
-    if body.strip() != f'{family_of(code)}_at(place, {tables})':
+    file = FILES[code]
+    tables = ['place'] + [f'&{file}::{TABLES[name]}' for name, *_ in document_000.equations(code)]
+    call = rf' +Datum::{file.capitalize()} => {family_of(code)}_at\(([^()]*)\),'
+    given, = only(call, source('src/lib.rt'), f'code {code}: the call with its tables')
+    if re.findall(r'[^\s,]+', given) != tables:
         wrong.append(f'code {code}: a table stands for another in the code')
 
 
@@ -269,7 +271,7 @@ def datum_blocks(code):
     name, place, ellipsoid = document_000.datum(code)
     text, definition = source(f'src/{FILES[code]}.rt'), page_of(code)
     held = framed(code, text, definition)
-    placed(code, text)
+    placed(code)
     footnote = [f'{place}.'] if place else []
     footnote += [f'{ellipsoid} ellipsoid.'] if ellipsoid else []
     words = footnote + [f'Gives the {document_000.gives(code)}.', f'In the code: `crates/tables/src/{FILES[code]}.rt`.']

@@ -1,7 +1,7 @@
 -- The laws, by what they are about. Another crate cites them as `Rattle.equation.proofs.NAME`.
 -- the powers: which stands where, how large it can be, and its sign
 pub mod Steps
--- a sum, how large it is, and a term of a table
+-- a sum, the sizes of its terms, and that their order makes no difference
 pub mod Sums
 -- the classes of terms, and the sum by theirs
 pub mod Classes

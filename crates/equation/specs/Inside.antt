@@ -1,6 +1,6 @@
 -- How the code works a sum: by the powers of the sizes of u and v, in four classes of terms, whose signs are put on at the end.
 -- No promise of an entry point speaks of it.
-use Rattle.std.specs.Prelude.{Bool, not, cond, List, [], ◌∷◌, ℕ, ◌+◌, ◌*◌, ◌%◌, eqb, ℤ, pos, nat_abs, ◌+ℤ◌, ◌*ℤ◌, get_or}
+use Rattle.std.specs.Prelude.{Bool, not, cond, List, [], ◌∷◌, ℕ, ◌+◌, ◌*◌, ◌%◌, ℤ, pos, nat_abs, ◌+ℤ◌, ◌*ℤ◌, get_or, set}
 use Rattle.whole.specs.Round.{scale}
 use Rattle.whole.specs.Sign.{with_sign}
 use Rattle.equation.specs.Powers.{powers_of}
@@ -23,16 +23,21 @@ size_powers u = powers_of scale (pos (nat_abs u)) 10
 abbrev pub class_of : Term → ℕ
 class_of (term c i j) = i % 2 * 2 + j % 2
 
--- what a term adds to the sum of a class: nothing where it is of another
-abbrev pub added_to : ℕ → Term → List ℤ → List ℤ → ℤ
-added_to n (term c i j) pu pv = cond (eqb (class_of (term c i j)) n) (c *ℤ product scale i j pu pv) (pos 0)
+-- what a term adds to the sum of its class
+abbrev pub value : Term → List ℤ → List ℤ → ℤ
+value (term c i j) pu pv = c *ℤ product scale i j pu pv
 
-unfoldable pub class_sum : ℕ → List Term → List ℤ → List ℤ → ℤ
-class_sum n [] pu pv = pos 0
-class_sum n (t ∷ ts) pu pv = added_to n t pu pv +ℤ class_sum n ts pu pv
+-- the sums of the four classes with a term more, and with some terms more
+abbrev pub with_term : List ℤ → Term → List ℤ → List ℤ → List ℤ
+with_term sums t pu pv = set sums (class_of t) (get_or sums (class_of t) (pos 0) +ℤ value t pu pv)
 
-abbrev pub class_sums : List Term → List ℤ → List ℤ → List ℤ
-class_sums ts pu pv = class_sum 0 ts pu pv ∷ class_sum 1 ts pu pv ∷ class_sum 2 ts pu pv ∷ class_sum 3 ts pu pv ∷ []
+unfoldable pub class_sums : List ℤ → List Term → List ℤ → List ℤ → List ℤ
+class_sums sums [] pu pv = sums
+class_sums sums (t ∷ ts) pu pv = class_sums (with_term sums t pu pv) ts pu pv
+
+-- how large they are together
+abbrev pub spread : List ℤ → ℕ
+spread sums = nat_abs (get_or sums 0 (pos 0)) + nat_abs (get_or sums 1 (pos 0)) + nat_abs (get_or sums 2 (pos 0)) + nat_abs (get_or sums 3 (pos 0))
 
 -- the sum of all four, each with its sign, by whether u and v are below zero
 abbrev pub joined : Bool → Bool → List ℤ → ℤ

@@ -4,6 +4,7 @@ use Rattle.std.specs.Prelude.{List, [], ◌∷◌, ℕ, ◌+◌, ◌*◌, ◌<�
 use Rattle.std.specs.Int.Signed.{non_neg}
 use Rattle.whole.specs.Round.{scale}
 use Rattle.equation.specs.Equation.{Term, term, product}
+use Rattle.equation.specs.Inside.{spread}
 
 -- the powers are among the ten and not negative, and 64 bits hold what is divided
 abbrev pub Fitting : Term → List ℤ → List ℤ → Type 0
@@ -21,3 +22,8 @@ sizes (term c i j ∷ ts) pu pv = nat_abs c * nat_abs (product scale i j pu pv) 
 pub record Room (ts : List Term) (pu pv : List ℤ) : Type 0 where
   pub each : EachFits ts pu pv
   pub within : sizes ts pu pv < 2 ^ 63
+
+-- the same of some terms, where the sums of the classes are there already of others
+pub record RoomFrom (sums : List ℤ) (ts : List Term) (pu pv : List ℤ) : Type 0 where
+  pub each : EachFits ts pu pv
+  pub within : spread sums + sizes ts pu pv < 2 ^ 63

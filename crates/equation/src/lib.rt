@@ -1,12 +1,12 @@
 // The working rule: the powers of u and of v, and the sum of one equation over its table of terms. It knows no datum.
 #![tactic(auto)]
 
-ghost use Rattle.std.specs.Prelude.{◌≡◌, ◌+◌, ◌<◌, ◌≤◌, pos, nat_abs, length, get_or, take};
+ghost use Rattle.std.specs.Prelude.{◌≡◌, ◌<◌, ◌≤◌, ◌^◌, nat_abs};
 ghost use Rattle.whole.specs.Round.{scale};
 ghost use Rattle.equation.specs.Powers.{powers_of};
 ghost use Rattle.equation.specs.Equation.{sum};
-ghost use Rattle.equation.specs.Room.{Room};
-ghost use Rattle.equation.specs.Inside.{terms, size_powers, class_sums, joined};
+ghost use Rattle.equation.specs.Room.{Room, RoomFrom};
+ghost use Rattle.equation.specs.Inside.{terms, size_powers, class_sums, spread, joined};
 
 use whole::Parts;
 
@@ -56,55 +56,31 @@ pub fn size_powers(u: Parts) -> [i64; 10]
 
 // The sum of each coefficient times its product of powers, which is exact. Who calls divides it, by a literal, and rounds once.
 // It is worked by sizes, since a rounding of a number that is not negative is the shorter one; and a term's sign is that of its
-// class.
+// class. The terms are walked eight at a time: the compiler makes straight code of a loop that short, in which all that a table
+// says is known. Table and powers are two parameters, since a point has one set of powers and up to three tables.
 pub fn sum(table: &[Term], powers: Powers) -> i64
     requires { Room (terms table.now) (size_powers powers.u.0) (size_powers powers.v.0) }
     ensures { result ≡ sum scale (terms table.now) (powers_of scale powers.u.0 10) (powers_of scale powers.v.0 10) }
 {
-    joined(class_sums(table, powers), powers.u.0 < 0, powers.v.0 < 0)
-}
-
-// The sum of all classes, each with its sign, by whether u and v are below zero: a class with an odd power of one that is has the
-// other sign.
-fn joined(sums: [i64; 4], u: bool, v: bool) -> i64
-    requires { nat_abs (get_or sums 0 (pos 0)) + nat_abs (get_or sums 1 (pos 0)) + nat_abs (get_or sums 2 (pos 0)) + nat_abs (get_or sums 3 (pos 0)) < 9223372036854775808 }
-    ensures { result ≡ joined u v sums }
-{
-    sums[0]
-        + whole::with_sign(v, sums[1])
-        + whole::with_sign(u, sums[2])
-        + whole::with_sign(u != v, sums[3])
-}
-
-// The sum of each class of terms: those whose powers are both even, V's alone is odd, U's alone, both. They are walked eight at a
-// time: the compiler makes straight code of a loop that short, in which all that a table says is known.
-fn class_sums(table: &[Term], powers: Powers) -> [i64; 4]
-    requires { Room (terms table.now) powers.of_u powers.of_v }
-    ensures { result ≡ class_sums (terms table.now) powers.of_u powers.of_v }
-{
     let mut sums = [0; 4];
-    let mut from = 0;
-    while from < table.len() {
-        let to = table.len().min(from + 8);
+    for eight in table.chunks(8) {
         // the toolchain checks no call whose result is laid straight into an array that is there
-        let more = added(sums, table, powers, from, to);
+        let more = added(sums, eight, powers);
         sums = more;
-        from = to;
     }
-    sums
+    joined(sums, powers.u.0 < 0, powers.v.0 < 0)
 }
 
-// The sums with the terms up to one place, by those up to another.
-fn added(before: [i64; 4], table: &[Term], powers: Powers, from: usize, to: usize) -> [i64; 4]
-    requires room { Room (terms table.now) powers.of_u powers.of_v }
-    requires from_le_to { (from ≤ to) × (to ≤ length table.now) }
-    requires before_value { before ≡ class_sums (take from (terms table.now)) powers.of_u powers.of_v }
-    ensures { result ≡ class_sums (take to (terms table.now)) powers.of_u powers.of_v }
+// The sums of the four classes, with the terms of a part of the table more. A term is of class 0 where both its powers are even,
+// of 1 where V's alone is odd, of 2 where U's alone is, of 3 where both are.
+fn added(before: [i64; 4], part: &[Term], powers: Powers) -> [i64; 4]
+    requires { RoomFrom before (terms part.now) powers.of_u powers.of_v }
+    ensures { result ≡ class_sums before (terms part.now) powers.of_u powers.of_v }
 {
     let mut sums = before;
-    for term in &table[from..to] {
-        let i = term.1 as usize;
-        let j = term.2 as usize;
+    for term in part {
+        let i = usize::from(term.1);
+        let j = usize::from(term.2);
         let class = i % 2 * 2 + j % 2;
         let product = whole::nearest(
             powers.of_u[i] as u64 * powers.of_v[j] as u64,
@@ -113,4 +89,16 @@ fn added(before: [i64; 4], table: &[Term], powers: Powers, from: usize, to: usiz
         sums[class] += term.0 * product as i64;
     }
     sums
+}
+
+// The sum of all classes, each with its sign, by whether u and v are below zero: a class with an odd power of one that is has the
+// other sign.
+fn joined(sums: [i64; 4], u: bool, v: bool) -> i64
+    requires { spread sums < 2 ^ 63 }
+    ensures { result ≡ joined u v sums }
+{
+    sums[0]
+        + whole::with_sign(v, sums[1])
+        + whole::with_sign(u, sums[2])
+        + whole::with_sign(u != v, sums[3])
 }

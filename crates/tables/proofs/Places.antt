@@ -3,9 +3,9 @@ use mathlib.Core.Path.{◌≡◌, sym, ◌∙◌, subst, subst₂}
 use mathlib.Core.Bool.{true}
 use lib.Dec.{T}
 use lib.IntN.{ℤ}
-use Rattle.tables.specs.Page.{Page}
-use Rattle.tables.specs.Rule.{counted_from, longitude_on, in_box, along}
-use Rattle.tables.specs.Inside.{row_of, datum_page, frame_of, on_axis, AllFit, Close}
+use Rattle.tables.specs.Page.{Page, Family}
+use Rattle.tables.specs.Rule.{counted_from, longitude_on, in_box, along, worked}
+use Rattle.tables.specs.Inside.{row_of, datum_page, frame_of, on_axis, evaluated_at, AllFit, Close}
 use Rattle.tables.specs.declared.Datum.{Datum}
 use Rattle.tables.specs.declared.Frame.{Frame}
 use Rattle.tables.proofs.Limits.{page_keeps, row_keeps, close, u_coded, v_coded, all_fit}
@@ -35,3 +35,7 @@ module _ (self : Datum) (latitude longitude : ℤ) (inside : in_box (datum_page 
   fit e =
       subst (λ (x : Datum). AllFit (datum_page x).equations u v) e
       (subst₂ (AllFit page.equations) (sym u_is) (sym v_is) (all_fit page keeps latitude longitude inside))
+
+  -- and what they give there is what the page gives
+  pub given : {d : Datum} → self ≡ d → {answer : Family ℤ} → answer ≡ evaluated_at (datum_page d).equations u v → answer ≡ worked page latitude longitude
+  given e h = h ∙ (λ i. evaluated_at (datum_page (sym e i)).equations (u_is i) (v_is i))

@@ -1,9 +1,5 @@
 // Code 3, NAD 27 (Alaska): document 000, Table 20.31. Each table stands by rising power of V, then of U.
-ghost use Rattle.std.specs.Prelude.{◌≡◌};
-ghost use Rattle.tables.specs.Inside.{evaluated_at, shift_says, AllFit};
-ghost use Rattle.tables.specs.Alaska.{alaska};
-
-use super::{Axis, Family, Frame, Place, Shift, shift_at};
+use super::{Axis, Family, Frame};
 use equation::Term;
 use kinds::LocalLatitude;
 
@@ -29,7 +25,7 @@ pub(crate) const FRAME: Frame = Frame {
 // Δφ" = - 2.08611 + 0.59833 U + 0.52967 V + 0.23473 U^2 + 0.23563 UV + 0.28672 UV^2 + 0.27573 V^3 + 0.19561 U^4
 //     - 0.15184 U^3V - 0.21241 U^2V^2 + 0.04891 V^4 - 0.18860 UV^4 - 0.17032 V^5 - 0.05741 UV^5 - 0.04292 U^2V^5
 //     + 0.02097 V^7 - 0.01487 U^2V^6 - 0.00384 V^8 - 0.18402 U^9 - 0.00188 U^3V^7
-const LATITUDE: [Term; 20] = [
+pub(crate) const LATITUDE: [Term; 20] = [
     Term(-208_611, 0, 0), // - 2.08611
     Term(59_833, 1, 0), // + 0.59833 U
     Term(23_473, 2, 0), // + 0.23473 U^2
@@ -56,7 +52,7 @@ const LATITUDE: [Term; 20] = [
 //     + 0.74679 U^4 + 0.43200 U^3V + 4.24388 U^2V^2 + 0.14065 UV^3 - 0.30990 U^2V^3 + 0.11365 V^5 - 1.48566 U^4V^2
 //     - 1.96501 U^2V^4 + 2.04229 U^6V - 0.48255 U^5V^2 + 0.09847 UV^6 + 0.49313 U^2V^6 - 1.00218 U^8V
 //     - 0.02809 U^2V^8 + 0.00054 U^5V^9
-const LONGITUDE: [Term; 23] = [
+pub(crate) const LONGITUDE: [Term; 23] = [
     Term(-819_369, 0, 0), // - 8.19369
     Term(-156_665, 1, 0), // - 1.56665 U
     Term(-310_809, 2, 0), // - 3.10809 U^2
@@ -84,7 +80,7 @@ const LONGITUDE: [Term; 23] = [
 
 // ΔH m = 8.352 - 13.742 U - 8.268 V + 0.900 V^2 + 5.340 U^3 + 2.960 UV^2 - 2.016 V^3 + 5.087 U^3V + 1.437 UV^3
 //     + 0.951 V^5 - 2.461 U^3V^4 - 1.560 U^8 - 1.980 U^7V - 0.205 U^5V^3 + 0.094 UV^8 - 2.885 U^8V^2 - 0.011 UV^9
-const HEIGHT: [Term; 17] = [
+pub(crate) const HEIGHT: [Term; 17] = [
     Term(8_352, 0, 0), // 8.352
     Term(-13_742, 1, 0), // - 13.742 U
     Term(5_340, 3, 0), // + 5.340 U^3
@@ -103,10 +99,3 @@ const HEIGHT: [Term; 17] = [
     Term(94, 1, 8), // + 0.094 UV^8
     Term(-11, 1, 9), // - 0.011 UV^9
 ];
-
-pub(crate) fn shift(place: Place) -> Shift
-    requires { AllFit alaska.equations place.u.0 place.v.0 }
-    ensures { shift_says result ≡ evaluated_at alaska.equations place.u.0 place.v.0 }
-{
-    shift_at(place, &LATITUDE, &LONGITUDE, &HEIGHT)
-}

@@ -1,9 +1,5 @@
 // Code 1, ED 50 (Cyprus): document 000, Table 20.16. Each table stands by rising power of V, then of U.
-ghost use Rattle.std.specs.Prelude.{◌≡◌};
-ghost use Rattle.tables.specs.Inside.{evaluated_at, shift_says, AllFit};
-ghost use Rattle.tables.specs.Cyprus.{cyprus};
-
-use super::{Axis, Family, Frame, Place, Shift, shift_at};
+use super::{Axis, Family, Frame};
 use equation::Term;
 use kinds::LocalLatitude;
 
@@ -27,7 +23,7 @@ pub(crate) const FRAME: Frame = Frame {
 };
 
 // Δφ" = - 3.84288 + 0.09188 U + 0.03581 V - 0.07481 UV
-const LATITUDE: [Term; 4] = [
+pub(crate) const LATITUDE: [Term; 4] = [
     Term(-384_288, 0, 0), // - 3.84288
     Term(9_188, 1, 0), // + 0.09188 U
     Term(3_581, 0, 1), // + 0.03581 V
@@ -35,7 +31,7 @@ const LATITUDE: [Term; 4] = [
 ];
 
 // Δλ" = - 1.10294 - 0.04240 U + 0.12748 V - 0.32783 UV^2 + 0.51023 UV^3 - 0.01600 V^7 - 0.1718 U^3V^9
-const LONGITUDE: [Term; 7] = [
+pub(crate) const LONGITUDE: [Term; 7] = [
     Term(-110_294, 0, 0), // - 1.10294
     Term(-4_240, 1, 0), // - 0.04240 U
     Term(12_748, 0, 1), // + 0.12748 V
@@ -47,7 +43,7 @@ const LONGITUDE: [Term; 7] = [
 
 // ΔH m = 24.430 - 5.719 U + 0.778 V + 5.631 U^2 - 23.892 UV + 18.980 U^2V - 0.988 V^3 + 106.027 U^3V - 42.824 U^4V
 //     - 323.655 U^9V^2 + 2.261 U^4V^9
-const HEIGHT: [Term; 11] = [
+pub(crate) const HEIGHT: [Term; 11] = [
     Term(24_430, 0, 0), // 24.430
     Term(-5_719, 1, 0), // - 5.719 U
     Term(5_631, 2, 0), // + 5.631 U^2
@@ -60,10 +56,3 @@ const HEIGHT: [Term; 11] = [
     Term(-988, 0, 3), // - 0.988 V^3
     Term(2_261, 4, 9), // + 2.261 U^4V^9
 ];
-
-pub(crate) fn shift(place: Place) -> Shift
-    requires { AllFit cyprus.equations place.u.0 place.v.0 }
-    ensures { shift_says result ≡ evaluated_at cyprus.equations place.u.0 place.v.0 }
-{
-    shift_at(place, &LATITUDE, &LONGITUDE, &HEIGHT)
-}

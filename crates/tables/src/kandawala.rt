@@ -1,10 +1,5 @@
 // Code 5, Kandawala, geoid heights: document 000, Table 23.21. Each table stands by rising power of V, then of U.
-ghost use Rattle.std.specs.Prelude.{◌≡◌};
-ghost use Rattle.tables.specs.Page.{geoid};
-ghost use Rattle.tables.specs.Inside.{evaluated_at, AllFit};
-ghost use Rattle.tables.specs.Kandawala.{kandawala};
-
-use super::{Axis, Family, Frame, Place, geoid_at};
+use super::{Axis, Family, Frame};
 use equation::Term;
 use kinds::LocalLatitude;
 
@@ -29,7 +24,7 @@ pub(crate) const FRAME: Frame = Frame {
 
 // N m = - 0.979 + 1.853 U - 3.443 U^2 + 2.523 U^3 - 5.423 U^2V - 5.278 V^3 + 3.965 U^4V^3 - 0.899 U^7V^2
 //     + 5.225 U^2V^9
-const HEIGHT: [Term; 9] = [
+pub(crate) const HEIGHT: [Term; 9] = [
     Term(-979, 0, 0), // - 0.979
     Term(1_853, 1, 0), // + 1.853 U
     Term(-3_443, 2, 0), // - 3.443 U^2
@@ -40,10 +35,3 @@ const HEIGHT: [Term; 9] = [
     Term(3_965, 4, 3), // + 3.965 U^4V^3
     Term(5_225, 2, 9), // + 5.225 U^2V^9
 ];
-
-pub(crate) fn geoid(place: Place) -> i32
-    requires { AllFit kandawala.equations place.u.0 place.v.0 }
-    ensures { geoid result ≡ evaluated_at kandawala.equations place.u.0 place.v.0 }
-{
-    geoid_at(place, &HEIGHT)
-}

@@ -55,10 +55,20 @@ impl Datum {
         let frame = self.frame();
         let place = frame.place(position);
         match self {
-            Datum::Cyprus => cyprus::shift(place),
-            Datum::Minna => minna::shift(place),
-            Datum::Alaska => alaska::shift(place),
-            Datum::Qatar => qatar::shift(place),
+            Datum::Cyprus => shift_at(
+                place,
+                &cyprus::LATITUDE,
+                &cyprus::LONGITUDE,
+                &cyprus::HEIGHT,
+            ),
+            Datum::Minna => shift_at(place, &minna::LATITUDE, &minna::LONGITUDE, &minna::HEIGHT),
+            Datum::Alaska => shift_at(
+                place,
+                &alaska::LATITUDE,
+                &alaska::LONGITUDE,
+                &alaska::HEIGHT,
+            ),
+            Datum::Qatar => shift_at(place, &qatar::LATITUDE, &qatar::LONGITUDE, &qatar::HEIGHT),
             // never asked; with a trap here the compiler would work the equations where only a refusal is wanted
             Datum::Kandawala | Datum::Nahrwan => Shift {
                 latitude: 0,
@@ -78,8 +88,8 @@ impl Datum {
         let frame = self.frame();
         let place = frame.place(position);
         match self {
-            Datum::Kandawala => kandawala::geoid(place),
-            Datum::Nahrwan => nahrwan::geoid(place),
+            Datum::Kandawala => geoid_at(place, &kandawala::HEIGHT),
+            Datum::Nahrwan => geoid_at(place, &nahrwan::HEIGHT),
             // never asked, likewise
             Datum::Cyprus | Datum::Minna | Datum::Alaska | Datum::Qatar => 0,
         }
@@ -121,7 +131,7 @@ impl Frame {
     {
         let latitude = position.latitude;
         let longitude = self.longitude(position);
-        within(self.south, self.north, latitude.ms() as i64)
+        within(self.south, self.north, i64::from(latitude.ms()))
             & within(self.west, self.east, longitude)
     }
 
@@ -134,7 +144,7 @@ impl Frame {
         let u = self.u;
         let v = self.v;
         Place {
-            u: u.along(north.ms() as i64),
+            u: u.along(i64::from(north.ms())),
             v: v.along(self.longitude(position)),
         }
     }
@@ -144,7 +154,7 @@ impl Frame {
         ensures { (result ≡ counted_from self.west position.longitude.0) × (nat_abs result ≤ 4294967296) }
     {
         let longitude = position.longitude;
-        let ms = longitude.ms() as i64;
+        let ms = i64::from(longitude.ms());
         let turned = ms - LocalLongitude::TURN;
         if self.west <= turned { turned } else { ms }
     }
@@ -173,15 +183,10 @@ impl Axis {
     }
 }
 
-// The shift at a place, by three tables. It is put into each function that calls it, where a table is a constant, of which the
+// The shift at a place, by three tables. It is put into each place that calls it, where a table is a constant, of which the
 // compiler makes straight code.
 #[inline(always)]
-pub(crate) fn shift_at(
-    place: Place,
-    latitude: &[Term],
-    longitude: &[Term],
-    height: &[Term],
-) -> Shift
+fn shift_at(place: Place, latitude: &[Term], longitude: &[Term], height: &[Term]) -> Shift
     requires { AllFit (shift_by latitude.now longitude.now height.now) place.u.0 place.v.0 }
     ensures { shift_says result ≡ evaluated_at (shift_by latitude.now longitude.now height.now) place.u.0 place.v.0 }
 {
@@ -195,7 +200,7 @@ pub(crate) fn shift_at(
 
 // The geoid height at a place, likewise.
 #[inline(always)]
-pub(crate) fn geoid_at(place: Place, height: &[Term]) -> i32
+fn geoid_at(place: Place, height: &[Term]) -> i32
     requires { AllFit (geoid_by height.now) place.u.0 place.v.0 }
     ensures { geoid result ≡ evaluated_at (geoid_by height.now) place.u.0 place.v.0 }
 {

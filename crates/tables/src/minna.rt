@@ -1,9 +1,5 @@
 // Code 2, Minna: document 000, Table 20.29. Each table stands by rising power of V, then of U.
-ghost use Rattle.std.specs.Prelude.{◌≡◌};
-ghost use Rattle.tables.specs.Inside.{evaluated_at, shift_says, AllFit};
-ghost use Rattle.tables.specs.Minna.{minna};
-
-use super::{Axis, Family, Frame, Place, Shift, shift_at};
+use super::{Axis, Family, Frame};
 use equation::Term;
 use kinds::LocalLatitude;
 
@@ -29,7 +25,7 @@ pub(crate) const FRAME: Frame = Frame {
 // Δφ" = 0.49461 - 0.69094 U + 0.39940 V - 7.44709 U^3 - 1.82129 U^2V - 2.92752 UV^2 + 5.70789 U^3V - 2.10838 U^2V^2
 //     - 6.88780 UV^3 + 14.35602 U^5 + 5.10389 UV^4 + 6.18524 U^6 + 8.62320 UV^5 + 48.52705 U^7V^2 - 0.49769 V^9
 //     - 11.39331 U^4V^8
-const LATITUDE: [Term; 16] = [
+pub(crate) const LATITUDE: [Term; 16] = [
     Term(49_461, 0, 0), // 0.49461
     Term(-69_094, 1, 0), // - 0.69094 U
     Term(-744_709, 3, 0), // - 7.44709 U^3
@@ -50,7 +46,7 @@ const LATITUDE: [Term; 16] = [
 
 // Δλ" = -2.62435 - 0.21876 U + 0.43678 V + 0.35068 UV - 1.53864 U^2V - 0.46268 UV^3 + 2.20240 U^4V - 0.11456 V^5
 //     + 1.59485 U^3V^4
-const LONGITUDE: [Term; 9] = [
+pub(crate) const LONGITUDE: [Term; 9] = [
     Term(-262_435, 0, 0), // -2.62435
     Term(-21_876, 1, 0), // - 0.21876 U
     Term(43_678, 0, 1), // + 0.43678 V
@@ -64,7 +60,7 @@ const LONGITUDE: [Term; 9] = [
 
 // ΔH m = 20.013 + 2.098 U - 11.691 V + 47.983 U^2V - 60.195 U^4V - 21.214 U^2V^3 + 8.642 V^5 - 12.588 U^5V
 //     - 27.760 U^3V^8
-const HEIGHT: [Term; 9] = [
+pub(crate) const HEIGHT: [Term; 9] = [
     Term(20_013, 0, 0), // 20.013
     Term(2_098, 1, 0), // + 2.098 U
     Term(-11_691, 0, 1), // - 11.691 V
@@ -75,10 +71,3 @@ const HEIGHT: [Term; 9] = [
     Term(8_642, 0, 5), // + 8.642 V^5
     Term(-27_760, 3, 8), // - 27.760 U^3V^8
 ];
-
-pub(crate) fn shift(place: Place) -> Shift
-    requires { AllFit minna.equations place.u.0 place.v.0 }
-    ensures { shift_says result ≡ evaluated_at minna.equations place.u.0 place.v.0 }
-{
-    shift_at(place, &LATITUDE, &LONGITUDE, &HEIGHT)
-}

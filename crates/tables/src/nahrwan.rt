@@ -1,10 +1,5 @@
 // Code 6, Nahrwan, geoid heights: document 000, Table 23.27. Each table stands by rising power of V, then of U.
-ghost use Rattle.std.specs.Prelude.{◌≡◌};
-ghost use Rattle.tables.specs.Page.{geoid};
-ghost use Rattle.tables.specs.Inside.{evaluated_at, AllFit};
-ghost use Rattle.tables.specs.Nahrwan.{nahrwan};
-
-use super::{Axis, Family, Frame, Place, geoid_at};
+use super::{Axis, Family, Frame};
 use equation::Term;
 use kinds::LocalLatitude;
 
@@ -28,7 +23,7 @@ pub(crate) const FRAME: Frame = Frame {
 };
 
 // N m = 7.464 - 3.286 U - 3.024 V - 3.944 U^2 - 4.720 V^2 - 2.019 U^3 - 1.613 V^3
-const HEIGHT: [Term; 7] = [
+pub(crate) const HEIGHT: [Term; 7] = [
     Term(7_464, 0, 0), // 7.464
     Term(-3_286, 1, 0), // - 3.286 U
     Term(-3_944, 2, 0), // - 3.944 U^2
@@ -37,10 +32,3 @@ const HEIGHT: [Term; 7] = [
     Term(-4_720, 0, 2), // - 4.720 V^2
     Term(-1_613, 0, 3), // - 1.613 V^3
 ];
-
-pub(crate) fn geoid(place: Place) -> i32
-    requires { AllFit nahrwan.equations place.u.0 place.v.0 }
-    ensures { geoid result ≡ evaluated_at nahrwan.equations place.u.0 place.v.0 }
-{
-    geoid_at(place, &HEIGHT)
-}

@@ -1,9 +1,5 @@
 // Code 4, Qatar National: document 000, Table 20.41. Each table stands by rising power of V, then of U.
-ghost use Rattle.std.specs.Prelude.{◌≡◌};
-ghost use Rattle.tables.specs.Inside.{evaluated_at, shift_says, AllFit};
-ghost use Rattle.tables.specs.Qatar.{qatar};
-
-use super::{Axis, Family, Frame, Place, Shift, shift_at};
+use super::{Axis, Family, Frame};
 use equation::Term;
 use kinds::LocalLatitude;
 
@@ -28,7 +24,7 @@ pub(crate) const FRAME: Frame = Frame {
 
 // Δφ" = 2.47363 + 0.08786 U + 0.14283 U^2 + 0.04380 UV + 0.07142 V^2 - 0.08879 UV^2 - 0.11089 U^5 - 0.06321 U^3V^4
 //     + 0.01669 U^9
-const LATITUDE: [Term; 9] = [
+pub(crate) const LATITUDE: [Term; 9] = [
     Term(247_363, 0, 0), // 2.47363
     Term(8_786, 1, 0), // + 0.08786 U
     Term(14_283, 2, 0), // + 0.14283 U^2
@@ -41,7 +37,7 @@ const LATITUDE: [Term; 9] = [
 ];
 
 // Δλ" = -2.80439 + 0.10489 V + 0.02697 V^2 - 1.10721 U^2V^2 + 2.88786 U^2V^3 - 0.06281 U^5V - 2.59921 U^3V^6
-const LONGITUDE: [Term; 7] = [
+pub(crate) const LONGITUDE: [Term; 7] = [
     Term(-280_439, 0, 0), // -2.80439
     Term(10_489, 0, 1), // + 0.10489 V
     Term(-6_281, 5, 1), // - 0.06281 U^5V
@@ -52,7 +48,7 @@ const LONGITUDE: [Term; 7] = [
 ];
 
 // ΔH m = -28.376 + 2.381 U - 1.126 U^2 + 3.095 V^2 - 4.112 U^3V^3 - 13.156 V^7 - 2.048 U^8 + 1.618 U^9 + 18.689 UV^8
-const HEIGHT: [Term; 9] = [
+pub(crate) const HEIGHT: [Term; 9] = [
     Term(-28_376, 0, 0), // -28.376
     Term(2_381, 1, 0), // + 2.381 U
     Term(-1_126, 2, 0), // - 1.126 U^2
@@ -63,10 +59,3 @@ const HEIGHT: [Term; 9] = [
     Term(-13_156, 0, 7), // - 13.156 V^7
     Term(18_689, 1, 8), // + 18.689 UV^8
 ];
-
-pub(crate) fn shift(place: Place) -> Shift
-    requires { AllFit qatar.equations place.u.0 place.v.0 }
-    ensures { shift_says result ≡ evaluated_at qatar.equations place.u.0 place.v.0 }
-{
-    shift_at(place, &LATITUDE, &LONGITUDE, &HEIGHT)
-}

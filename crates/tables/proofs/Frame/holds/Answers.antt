@@ -1,7 +1,7 @@
 use Rattle.std.proofs.Common.{◌≡◌, ◌∙◌, rules, Bool, ◌&&◌, ℤ}
-use mir.Syntax.{w64}
+use mir.Syntax.{w32, w64}
 use mir.Val.{SFits, to_z, of_z}
-use Rattle.whole.proofs.Words.{of, widened}
+use Rattle.whole.proofs.Words.{of}
 use Rattle.kinds.specs.Kinds.{within}
 use Rattle.tables.proofs.Frame.holds.Goals as goal
 
@@ -18,6 +18,6 @@ returns c =
     let east : SFits w64 frame.east = search rules in
     let m = c.ms in
     let l = c.longitude-longitude in
-    let a = side frame.south frame.north c.args.position.latitude.0 south north ((widened {x = m.result} (record { sfits = m.type_inv })).reads ∙ m.ensures) c.within.ensures in
+    let a = side frame.south frame.north c.args.position.latitude.0 south north ((of {w = w64} (record { sfits = c.from.type_inv })).reads ∙ c.from.ensures ∙ (of {w = w32} (record { sfits = m.type_inv })).reads ∙ m.ensures) c.within.ensures in
     let b = side frame.west frame.east _ west east ((of {w = w64} (record { sfits = l.type_inv })).reads ∙ l.ensures.0) c.within-2.ensures in
     λ i. a i && b i
