@@ -12,6 +12,7 @@ ghost use Rattle.position.specs.Text.{latitude, longitude, degrees, is_angle, in
 
 use kinds::{LocalLatitude, LocalLongitude, Refusal, put};
 use numbers::four;
+use whole::last_digit;
 
 // Reads the 11 bytes `ddmmss.sssN` or `S` into ms, north positive: `900000.000N` is 324000000. Refused: 1 another length, 2 a
 // byte that is not of its kind, 3 minutes or seconds from 60 up, past 90°, or S after zero.
@@ -206,13 +207,6 @@ fn southern(ms: u64) -> Result<LocalLatitude, Refusal>
         return Err(Refusal::Range);
     }
     LocalLatitude::new(-(ms as i64))
-}
-
-// The last digit of n, as a byte.
-fn last_digit(n: u64) -> u8
-    ensures { result ≡ 48 + n % 10 }
-{
-    (n % 10) as u8 + b'0'
 }
 
 // ms as `dddmmss.sss`, and the letter. A latitude's text is this without its first digit. The last two of three digits are made
