@@ -11,7 +11,7 @@ ghost use Rattle.position.specs.Inside.{figures, InPairs, angle_said};
 ghost use Rattle.position.specs.Text.{latitude, longitude, degrees, is_angle, in_sixties, angle, read, spelled, write};
 
 use kinds::{LocalLatitude, LocalLongitude, Refusal, put};
-use numbers::four;
+use numbers::unsigned;
 use whole::last_digit;
 
 // Reads the 11 bytes `ddmmss.sssN` or `S` into ms, north positive: `900000.000N` is 324000000. Refused: 1 another length, 2 a
@@ -152,7 +152,8 @@ fn figures(t: &[u8]) -> u64
     requires { length t.now ≡ 11 }
     ensures { result ≡ figures t.now }
 {
-    (four(t, 2) as u64 * 4_294_967_296 + four(t, 6) as u64) ^ 0x3030_3030_2E30_3030
+    (u64::from(unsigned::<4>(t, 2)) * 4_294_967_296 + u64::from(unsigned::<4>(t, 6)))
+        ^ 0x3030_3030_2E30_3030
 }
 
 // What they say: to each byte ten times the byte before it is added, so that every other byte says two digits.

@@ -2,7 +2,7 @@
 use mathlib.Core.Path.{◌≡◌, refl, ap, ◌∙◌}
 use mathlib.Core.Bool.{Bool, false, ◌&&◌}
 use mathlib.Core.List.{List, [], ◌∷◌, flat_map}
-use Prim.Native.Nat.{ℕ, ◌<◌}
+use Prim.Native.Nat.{ℕ}
 use native.Mathlib.Omega.{arith}
 use Rattle.std.specs.List.{list_all}
 use lib.IntN.{ℤ, pos}
@@ -10,7 +10,7 @@ use borrow.Rule.Slice.PartMut.{put_mid}
 use lib.ListN.{length, get_or, replicate}
 use mir.Syntax.{w64}
 use mir.Val.{SFits, to_z, of_z}
-use Rattle.whole.proofs.Words.{of, from_unsigned}
+use Rattle.whole.proofs.Words.{of}
 use Rattle.whole.specs.Places.{in_places, from_places}
 use Rattle.kinds.specs.Answer.{Answer, gives, refused, number_of}
 use Rattle.kinds.specs.Bytes.{part}
@@ -51,16 +51,12 @@ unfolding record_of in_record
 refused_record r = refl
 
 -- a call on the numbers that 9 bytes say
-module _ (t : List ℕ) {code longitude : ℕ} {latitude : ℤ}
-    (coded : code ≡ number (part 0 1 t)) (one : code < 256)
-    (is-latitude : latitude ≡ signed (number (part 1 4 t))) (fits : SFits w64 latitude)
-    (is-longitude : longitude ≡ number (part 5 4 t)) (four : longitude < 4294967296) where
-  pub point_record_is : {a : Answer (Family ℤ)} → a ≡ answer_of (to_z w64 code) (to_z w64 (of_z w64 latitude)) (to_z w64 longitude) → in_record a ≡ point_record t
+module _ (t : List ℕ) {code latitude longitude : ℤ}
+    (coded : code ≡ pos (number (part 0 1 t))) (is-latitude : latitude ≡ signed (number (part 1 4 t))) (is-longitude : longitude ≡ pos (number (part 5 4 t)))
+    (one : SFits w64 code) (two : SFits w64 latitude) (three : SFits w64 longitude) where
+  pub point_record_is : {a : Answer (Family ℤ)} → a ≡ answer_of (to_z w64 (of_z w64 code)) (to_z w64 (of_z w64 latitude)) (to_z w64 (of_z w64 longitude)) → in_record a ≡ point_record t
   unfolding point_record point
-  point_record_is e =
-      let c : to_z w64 code ≡ pos (number (part 0 1 t)) = (from_unsigned {w = w64} {n = code} (omega arith)).reads ∙ ap pos coded in
-      let l : to_z w64 longitude ≡ pos (number (part 5 4 t)) = (from_unsigned {w = w64} {n = longitude} (omega arith)).reads ∙ ap pos is-longitude in
-      ap in_record (e ∙ (λ i. answer_of (c i) (((of fits).reads ∙ is-latitude) i) (l i)))
+  point_record_is e = ap in_record (e ∙ (λ i. answer_of (((of one).reads ∙ coded) i) (((of two).reads ∙ is-latitude) i) (((of three).reads ∙ is-longitude) i)))
 
 -- ---- whether each code is flagged
 -- the code of a point's bytes is the first of them

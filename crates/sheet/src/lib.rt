@@ -12,6 +12,7 @@ ghost use Rattle.sheet.specs.Inside.{flags, all_flagged, record_of, point_record
 use datum::Given;
 use kinds::Refusal;
 use layout::Layout;
+use numbers::unsigned;
 
 // Works the sheet of a unit: writes the result to the start of a lent buffer and says how many bytes, 6 and 13 for each point.
 // Refused, in the order of the sheet's bytes: 1 where it is cut or bytes follow, 9 where its serial is zero, a count is over
@@ -67,9 +68,9 @@ fn in_record(refusal: u8, first: i32, second: i32, third: i32) -> [u8; RECORD]
 fn point_record(point: &[u8; layout::POINT]) -> [u8; RECORD]
     ensures { result ≡ point_record point.now }
 {
-    let latitude = numbers::signed(numbers::four(point, 1));
-    let longitude = numbers::four(point, 5) as i64;
-    match datum::answer(numbers::one(point, 0) as i64, latitude, longitude) {
+    let latitude = numbers::signed(unsigned::<4>(point, 1));
+    let longitude = i64::from(unsigned::<4>(point, 5));
+    match datum::answer(i64::from(unsigned::<1>(point, 0)), latitude, longitude) {
         Ok(Given::Shift(shifts)) => in_record(
             0,
             shifts.latitude.units(),

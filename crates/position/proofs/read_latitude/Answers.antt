@@ -1,10 +1,10 @@
-use Rattle.std.proofs.Common.{ℕ, ◌^◌, ◌<◌, true, ℤ, pos, neg_ℤ, ap, ◌∙◌, arith, w64}
+use Rattle.std.proofs.Common.{◌^◌, ◌<◌, true, ℤ, ap, ◌∙◌, arith, w64}
 use mir.Val.{hbits}
 use Rattle.whole.proofs.Bools.{joined}
 use Rattle.whole.proofs.Words.{from_unsigned}
 use Rattle.kinds.specs.Kinds.{is_latitude, tested}
 use Rattle.kinds.proofs.Answers.{handed_on}
-use Rattle.position.specs.Text.{latitude, letter, is_letter, is_angle, in_sixties, angle}
+use Rattle.position.specs.Text.{latitude, letter, is_letter, is_angle, in_sixties}
 use Rattle.position.proofs.Reading.{two_fail, wrong_kind, south, not_south, untold, told}
 use Rattle.position.proofs.read_latitude.Goals as goal
 
