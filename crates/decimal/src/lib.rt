@@ -5,6 +5,8 @@ ghost use Rattle.std.specs.Prelude.{◌≡◌, [], ◌∷◌, ◌++◌, ◌+◌,
 ghost use Rattle.whole.specs.Digits.{digits};
 ghost use Rattle.decimal.specs.Decimal.{sign, unpadded, decimal, printed_number, billionths, nine_places};
 
+use whole::last_digit;
+
 // A number and the byte that follows it, at the start of what is lent.
 pub fn number_and(n: i32, next: u8, line: &mut [u8]) -> usize
     requires { 12 ≤ length line.old }
@@ -34,8 +36,8 @@ fn billionths(n: u64, line: &mut [u8]) -> usize
     ensures value { result ≡ length (billionths n) }
     ensures line_after { line.new ≡ billionths n ++ drop result line.old }
 {
-    let point = up_to_three((n / BILLION) as u32, line);
-    let mut places = in_ten((n % BILLION) as u32);
+    let point = up_to_three(n / BILLION, line);
+    let mut places = in_ten(n % BILLION);
     places[0] = b'.';
     point + kinds::copy(&places, &mut line[point..])
 }
@@ -43,23 +45,23 @@ fn billionths(n: u64, line: &mut [u8]) -> usize
 // The digits of a number below 1,000, without leading zeros, at the start of what is lent. By `digits`, which writes them too, a
 // waypoint takes 38 % more instructions.
 #[tactic(auto, using(crate::proofs::Nine::one_digit, crate::proofs::Nine::two_digits, crate::proofs::Nine::three_digits, crate::proofs::Nine::one_set, crate::proofs::Nine::two_set, crate::proofs::Nine::three_set))]
-fn up_to_three(n: u32, line: &mut [u8]) -> usize
+fn up_to_three(n: u64, line: &mut [u8]) -> usize
     requires { (n < 1000) × (3 ≤ length line.old) }
     ensures value { result ≡ length (decimal n) }
     ensures line_after { line.new ≡ decimal n ++ drop result line.old }
 {
     if 100 <= n {
-        line[0] = digit(n / 100);
-        line[1] = digit(n / 10);
-        line[2] = digit(n);
+        line[0] = last_digit(n / 100);
+        line[1] = last_digit(n / 10);
+        line[2] = last_digit(n);
         return 3;
     }
     if 10 <= n {
-        line[0] = digit(n / 10);
-        line[1] = digit(n);
+        line[0] = last_digit(n / 10);
+        line[1] = last_digit(n);
         return 2;
     }
-    line[0] = digit(n);
+    line[0] = last_digit(n);
     1
 }
 
@@ -92,34 +94,27 @@ fn digits(n: u32, line: &mut [u8]) -> usize
     ensures value { result ≡ length (decimal n) }
     ensures line_after { line.new ≡ decimal n ++ drop result line.old }
 {
-    let ten = in_ten(n);
+    let ten = in_ten(u64::from(n));
     let first = first_digit(&ten);
     kinds::copy(&ten[first..], line)
 }
 
 // A number in ten digits.
-fn in_ten(n: u32) -> [u8; 10]
+fn in_ten(n: u64) -> [u8; 10]
     ensures { result ≡ digits 10 n }
 {
     [
-        digit(n / 1_000_000_000),
-        digit(n / 100_000_000),
-        digit(n / 10_000_000),
-        digit(n / 1_000_000),
-        digit(n / 100_000),
-        digit(n / 10_000),
-        digit(n / 1_000),
-        digit(n / 100),
-        digit(n / 10),
-        digit(n),
+        last_digit(n / 1_000_000_000),
+        last_digit(n / 100_000_000),
+        last_digit(n / 10_000_000),
+        last_digit(n / 1_000_000),
+        last_digit(n / 100_000),
+        last_digit(n / 10_000),
+        last_digit(n / 1_000),
+        last_digit(n / 100),
+        last_digit(n / 10),
+        last_digit(n),
     ]
-}
-
-// The last digit of a number.
-fn digit(n: u32) -> u8
-    ensures { result ≡ 48 + n % 10 }
-{
-    (n % 10) as u8 + b'0'
 }
 
 // Where the first digit stands that is written: the last one at the latest.

@@ -42,7 +42,7 @@ pub fn read(unit: i64, sheet: &[u8]) -> Result<Layout, Refusal>
     if sheet.len() < SERIAL {
         return Err(Refusal::Length);
     }
-    let serial = numbers::four(sheet, 0);
+    let serial = numbers::unsigned::<SERIAL>(sheet, 0);
     if serial == 0 {
         return Err(Refusal::Sheet);
     }
@@ -59,8 +59,8 @@ fn laid_out(sheet: &[u8]) -> Result<Layout, Refusal>
     if sheet.len() < CODES {
         return Err(Refusal::Length);
     }
-    // by `as`: the library has no From<u32> for usize
-    let datums = numbers::one(sheet, DATUMS) as usize;
+    // to usize by `as`: the library has no `From<u32>` for it
+    let datums = numbers::unsigned::<1>(sheet, DATUMS) as usize;
     if MOST_DATUMS < datums {
         return Err(Refusal::Sheet);
     }
@@ -75,7 +75,7 @@ fn laid_out(sheet: &[u8]) -> Result<Layout, Refusal>
     if sheet.len() < body {
         return Err(Refusal::Length);
     }
-    let points = numbers::two(sheet, count_at);
+    let points = numbers::unsigned::<COUNT>(sheet, count_at) as usize;
     if MOST_POINTS < points {
         return Err(Refusal::Sheet);
     }

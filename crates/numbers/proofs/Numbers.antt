@@ -1,5 +1,5 @@
 -- Big-endian numbers, as the code reads and writes them. Assumes nothing.
-use Rattle.std.specs.Int.{w16, w32, to_be_bytes, from_be_bytes, cast_signed, cast_unsigned}
+use Rattle.std.specs.Int.{w32, to_be_bytes, from_be_bytes, cast_signed, cast_unsigned}
 use mathlib.Core.Path.{◌≡◌, refl, sym, ap, ◌∙◌, subst}
 use mathlib.Core.Bool.{true}
 use mathlib.Core.List.{List, [], ◌∷◌}
@@ -10,29 +10,38 @@ use lib.Dec.{ltb}
 use lib.IntN.{ℤ, pos, negsuc}
 use lib.ListN.{length, drop}
 use borrow.Author.Tests.{ltb-true, ltb-false, lt-ltb, le-ltb}
+use borrow.Rule.Slice.PartMut.{put_mid}
 use mir.Val.{SFits}
 use Rattle.whole.proofs.Ring.{pos_sub}
-use Rattle.whole.proofs.Bools.{by_test}
+use Rattle.whole.proofs.Bools.{by_test, joined}
 use Rattle.whole.proofs.Places.{from_in_places, from_below, in_from_places}
 use Rattle.whole.proofs.Every.{every_cut}
 use Rattle.whole.specs.Places.{from_places, in_places}
 use Rattle.kinds.specs.Bytes.{part}
-use Rattle.kinds.proofs.Bytes.{at, part_one, part_two, part_four, length_part}
+use Rattle.kinds.proofs.Bytes.{at, part_one, length_part}
 use Rattle.numbers.specs.Numbers.{are_bytes, number, in_bytes, complement, signed}
 
 -- ---- unsigned
-module _ (from : ℕ) (t : List ℕ) where
-  pub one_read : from + 1 ≤ length t → at t from ≡ number (part from 1 t)
-  unfolding number from_places
-  one_read h = sym (ap number (part_one from t h) ∙ omega arith)
+-- up to four bytes, as the last of a word of which the others are zero
+word_read : (t : List ℕ) → length t ≤ 4 → from_be_bytes w32 (put_mid (4 - length t) (4 - (4 - length t)) (0 ∷ 0 ∷ 0 ∷ 0 ∷ []) t) ≡ number t
+unfolding number from_places
+word_read [] h = refl
+word_read (a ∷ []) h = omega arith
+word_read (a ∷ b ∷ []) h = omega arith
+word_read (a ∷ b ∷ c ∷ []) h = omega arith
+word_read (a ∷ b ∷ c ∷ d ∷ []) h = omega arith
+word_read (a ∷ b ∷ c ∷ d ∷ e ∷ t) h = absurd (omega arith)
 
-  pub two_read : from + 2 ≤ length t → from_be_bytes w16 (at t from ∷ at t (from + 1) ∷ []) ≡ number (part from 2 t)
-  unfolding number from_places
-  two_read h = sym (ap number (part_two from t h) ∙ omega arith)
+pub unsigned_read : (from n : ℕ) (t : List ℕ) → from + n ≤ length t → n ≤ 4 → {held : List ℕ} → held ≡ part from n t
+    → from_be_bytes w32 (put_mid (4 - n) (4 - (4 - n)) (0 ∷ 0 ∷ 0 ∷ 0 ∷ []) held) ≡ number (part from n t)
+unsigned_read from n t there few e =
+    let long = length_part from n t there in
+    simp e (subst (λ (w : ℕ). from_be_bytes w32 (put_mid (4 - w) (4 - (4 - w)) (0 ∷ 0 ∷ 0 ∷ 0 ∷ []) (part from n t)) ≡ number (part from n t)) long (word_read (part from n t) (omega (arith, long))))
 
-  pub four_read : from + 4 ≤ length t → from_be_bytes w32 (at t from ∷ at t (from + 1) ∷ at t (from + 2) ∷ at t (from + 3) ∷ []) ≡ number (part from 4 t)
-  unfolding number from_places
-  four_read h = sym (ap number (part_four from t h) ∙ omega arith)
+-- one byte says itself
+pub one_read : (from : ℕ) (t : List ℕ) → from + 1 ≤ length t → at t from ≡ number (part from 1 t)
+unfolding number from_places
+one_read from t h = sym (ap number (part_one from t h) ∙ omega arith)
 
 pub four_written : (n : ℕ) → to_be_bytes w32 n ≡ in_bytes 4 n
 unfolding in_bytes in_places
@@ -82,6 +91,11 @@ bytes_back bytes h = in_from_places 256 (omega arith) bytes h
 number_below : (bytes : List ℕ) → are_bytes bytes ≡ true → number bytes < 256 ^ length bytes
 unfolding number
 number_below bytes h = from_below 256 (omega arith) bytes h
+
+-- numbers below 256 are bytes
+pub are_bytes_lem : (t : List ℕ) → ((i : ℕ) → at t i < 256) → are_bytes t ≡ true
+are_bytes_lem [] known = refl
+are_bytes_lem (b ∷ t) known = joined (lt-ltb b 256 (known 0)) (are_bytes_lem t (λ i. known (suc i)))
 
 -- the number of a part
 module _ (from n : ℕ) (t : List ℕ) (there : from + n ≤ length t) (bytes : are_bytes t ≡ true) where

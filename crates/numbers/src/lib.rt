@@ -1,37 +1,19 @@
 // Big-endian numbers in bytes.
 #![tactic(auto)]
 
-ghost use Rattle.std.specs.Prelude.{◌≡◌, ◌+◌, ◌<◌, ◌≤◌, length};
+ghost use Rattle.std.specs.Prelude.{◌≡◌, ◌+◌, ◌^◌, ◌<◌, ◌≤◌, length};
 ghost use Rattle.kinds.specs.Bytes.{part};
 ghost use Rattle.numbers.specs.Numbers.{number, in_bytes, complement, signed};
 
-// The byte at a place.
-#[tactic(auto, using(crate::proofs::Numbers::one_read))]
-pub fn one(bytes: &[u8], at: usize) -> u32
-    requires { at + 1 ≤ length bytes.now }
-    ensures value { result ≡ number (part at 1 bytes.now) }
-    ensures upper_bound { result < 256 }
+// The unsigned number in the N bytes at a place: they are the last bytes of a word of which the others are zero.
+pub fn unsigned<const N: usize>(bytes: &[u8], at: usize) -> u32
+    requires { (at + N ≤ length bytes.now) × (N ≤ 4) }
+    ensures value { result ≡ number (part at N bytes.now) }
+    ensures upper_bound { result < 256 ^ N }
 {
-    u32::from(bytes[at])
-}
-
-// The unsigned number in the two bytes at a place.
-#[tactic(auto, using(crate::proofs::Numbers::two_read))]
-pub fn two(bytes: &[u8], at: usize) -> usize
-    requires { at + 2 ≤ length bytes.now }
-    ensures value { result ≡ number (part at 2 bytes.now) }
-    ensures upper_bound { result < 65536 }
-{
-    usize::from(u16::from_be_bytes([bytes[at], bytes[at + 1]]))
-}
-
-// The unsigned number in the four bytes at a place.
-#[tactic(auto, using(crate::proofs::Numbers::four_read))]
-pub fn four(bytes: &[u8], at: usize) -> u32
-    requires { at + 4 ≤ length bytes.now }
-    ensures { result ≡ number (part at 4 bytes.now) }
-{
-    u32::from_be_bytes([bytes[at], bytes[at + 1], bytes[at + 2], bytes[at + 3]])
+    let mut word = [0; 4];
+    word[4 - N..].copy_from_slice(&bytes[at..at + N]);
+    u32::from_be_bytes(word)
 }
 
 // The number of which the four bytes are the two's complement.

@@ -1,6 +1,6 @@
 -- A text by its bytes, as the code reads them; and a longitude's text as a digit and a text of a latitude's form.
 -- Assumes nothing.
-use Rattle.std.proofs.Common.{◌≡◌, ℕ, zero, suc, ◌+◌, ◌-◌, ◌*◌, ◌^◌, ◌≤◌, ◌&&◌, List, [], ◌∷◌, length, take, drop, sym, refl, ap, ◌∙◌, subst, arith, length-take-le, take_all}
+use Rattle.std.proofs.Common.{◌≡◌, ℕ, zero, suc, ◌+◌, ◌*◌, ◌^◌, ◌≤◌, ◌&&◌, List, [], ◌∷◌, length, take, sym, refl, ap, ◌∙◌, subst, arith, length-take-le}
 use mathlib.Core.Bool.{and_assoc}
 use lib.ListN.{length-map}
 use Rattle.whole.specs.Places.{from_places}
@@ -39,23 +39,15 @@ pub three_number : (from : ℕ) (t : List ℕ) → from + 3 ≤ length t → fro
 three_number from t h = ap from_digits (part_next from 2 t (omega arith)) ∙ number_next (at t from) (part (suc from) 2 t) (ap length (part_two (suc from) t (omega arith)))
 
 -- ---- a longitude's text: a digit, and a text of a latitude's form
-abbrev pub rest : List ℕ → List ℕ
-rest t = take (length t - 1) (drop 1 t)
+module _ (b : ℕ) (t : List ℕ) where
+  pub longitude_is_angle : (is_digit b && is_angle latitude t) ≡ is_angle longitude (b ∷ t)
+  unfolding is_angle all_digits
+  longitude_is_angle = simp and_assoc
 
-rest_is : (b : ℕ) (t : List ℕ) → rest (b ∷ t) ≡ t
-rest_is b t = take_all (length (b ∷ t) - 1) t (omega arith)
+  pub longitude_in_sixties : in_sixties latitude t ≡ in_sixties longitude (b ∷ t)
+  unfolding in_sixties
+  longitude_in_sixties = refl
 
-pub longitude_is_angle : (t : List ℕ) → length t ≡ 12 → (is_digit (at t 0) && is_angle latitude (rest t)) ≡ is_angle longitude t
-unfolding is_angle all_digits
-longitude_is_angle [] h = absurd (omega arith)
-longitude_is_angle (b ∷ t) h = rw (rest_is b t) (simp and_assoc)
-
-pub longitude_in_sixties : (t : List ℕ) → length t ≡ 12 → in_sixties latitude (rest t) ≡ in_sixties longitude t
-unfolding in_sixties
-longitude_in_sixties [] h = absurd (omega arith)
-longitude_in_sixties (b ∷ t) h = rw (rest_is b t)
-
-pub longitude_angle : (t : List ℕ) → length t ≡ 12 → digit_of (at t 0) * 360000000 + angle latitude (rest t) ≡ angle longitude t
-unfolding angle
-longitude_angle [] h = absurd (omega arith)
-longitude_angle (b ∷ t) h = rw (rest_is b t) (simp (number_next b (take 2 t) (length-take-le 2 t (omega arith))) (omega arith))
+  pub longitude_angle : length t ≡ 11 → digit_of b * 360000000 + angle latitude t ≡ angle longitude (b ∷ t)
+  unfolding angle
+  longitude_angle h = simp (number_next b (take 2 t) (length-take-le 2 t (omega arith))) (omega arith)

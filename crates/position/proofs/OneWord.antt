@@ -1,5 +1,6 @@
 -- The bytes `mmss.sss` of a latitude's form as one word: how the code tests them, and how it reads them. Assumes nothing.
-use Rattle.std.proofs.Common.{◌≡◌, ℕ, ◌+◌, ◌*◌, ◌/◌, ◌%◌, ◌<◌, Bool, true, ◌&&◌, eqb, ltb, List, [], ◌∷◌, length, sym, refl, ap, ◌∙◌, arith, ltb-false, ltb-true, le-ltb, lt-ltb}
+use Rattle.std.proofs.Common.{◌≡◌, ℕ, ◌+◌, ◌*◌, ◌/◌, ◌%◌, ◌<◌, Bool, true, ◌&&◌, eqb, ltb, List, [], ◌∷◌, length, sym, refl, ap, ◌∙◌, arith, ltb-false, ltb-true, le-ltb, lt-ltb, eqb-true}
+use Rattle.std.specs.Int.{w64, from_be_bytes}
 use mathlib.Core.Bool.{and-true, and_assoc, and_comm}
 use lib.Bits.{bit_and, bit_xor, and_zero_r}
 use Rattle.whole.specs.Every.{every}
@@ -7,6 +8,7 @@ use Rattle.whole.specs.Places.{from_places}
 use Rattle.whole.specs.Digits.{is_digit, digit_of, all_digits}
 use Rattle.whole.proofs.Bools.{both, joined, by_test}
 use Rattle.whole.proofs.Below.{below}
+use Rattle.whole.proofs.Every.{every_weaker}
 use Rattle.whole.proofs.Digits.{digit_limits}
 use Rattle.kinds.specs.Bytes.{part}
 use Rattle.kinds.proofs.Bytes.{at}
@@ -20,6 +22,9 @@ abbrev octet : List ℕ → List (Kind × ℕ)
 octet t =
     (figure, at t 2) ∷ (figure, at t 3) ∷ (figure, at t 4) ∷ (figure, at t 5)
     ∷ (stop, at t 6) ∷ (figure, at t 7) ∷ (figure, at t 8) ∷ (figure, at t 9) ∷ []
+
+abbrev pub eight : List ℕ → List ℕ
+eight t = at t 2 ∷ at t 3 ∷ at t 4 ∷ at t 5 ∷ at t 6 ∷ at t 7 ∷ at t 8 ∷ at t 9 ∷ []
 
 -- what the code tests of the word, and of the word with 6 more in each digit: no bit that a figure has not
 abbrev is_clear : ℕ → Bool
@@ -40,6 +45,11 @@ below_ten : (b : ℕ) → is_digit b ≡ true → digit_of b < 10
 unfolding digit_of
 below_ten b h = omega (arith, (digit_limits b h).0, (digit_limits b h).1)
 
+-- what is of its kind is a byte
+is_small : (p : Kind × ℕ) → is p ≡ true → small byte p ≡ true
+is_small (figure, b) h = lt-ltb b 256 (omega (arith, (digit_limits b h).1))
+is_small (stop, b) h = lt-ltb b 256 (omega (arith, eqb-true b full_stop h))
+
 -- two digits say less than 60 if the first, with 10 more, is below 16
 tens_below : (a b : ℕ) → a < 10 → b < 10 → eqb (bit_and (a + 10) 16) 0 ≡ ltb (a * 10 + b) 60
 tens_below a b g h =
@@ -49,13 +59,9 @@ tens_below a b g h =
     (λ e. e ∙ sym (le-ltb (a * 10 + b) 60 (omega (arith, ltb-false a 6 e))))
 
 module _ (t : List ℕ) (long : length t ≡ 11) where
-  eight_read : number (part 2 4 t) * 4294967296 + number (part 6 4 t) ≡ number (part 2 8 t)
-  unfolding number from_places
-  eight_read = by_bytes 11 (λ s. number (part 2 4 s) * 4294967296 + number (part 6 4 s) ≡ number (part 2 8 s)) (λ f. omega arith) t long
-
-  pub figures_read : bit_xor (number (part 2 4 t) * 4294967296 + number (part 6 4 t)) 3472328296194125872 ≡ figures t
-  unfolding figures
-  figures_read = ap (λ (n : ℕ). bit_xor n 3472328296194125872) eight_read
+  pub figures_read : bit_xor (from_be_bytes w64 (eight t)) 3472328296194125872 ≡ figures t
+  unfolding figures number from_places
+  figures_read = ap (λ (n : ℕ). bit_xor n 3472328296194125872) (by_bytes 11 (λ s. from_be_bytes w64 (eight s) ≡ number (part 2 8 s)) (λ f. omega arith) t long)
 
   left_is : every (small byte) (octet t) ≡ true → figures t ≡ word left (octet t)
   unfolding figures number from_places
@@ -92,100 +98,104 @@ module _ (t : List ℕ) (long : length t ≡ 11) where
     pub tested : {b : Bool} → are_clear (figures t) ((figures t + six_more) % 18446744073709551616) ≡ b → (b && (is_digit (at t 0) && is_digit (at t 1))) ≡ is_angle latitude t
     tested e = ap (λ (x : Bool). x && (is_digit (at t 0) && is_digit (at t 1))) (sym e) ∙ by_words
 
-    figures_say : is_angle latitude t ≡ true → figures t ≡ word figure_of (octet t)
-    figures_say a = left_is all_small ∙ all_say (octet t) all_small (both (every is (octet t)) (is_digit (at t 0) && is_digit (at t 1)) (is_angle_is ∙ a)).0
+  -- ---- of a text of the form
+  kinds : is_angle latitude t ≡ true → every is (octet t) ≡ true
+  kinds a = (both (every is (octet t)) (is_digit (at t 0) && is_digit (at t 1)) (is_angle_is ∙ a)).0
 
-    -- ---- the figures, each below 10
-    module _ (a : is_angle latitude t ≡ true) where
-      abbrev d : ℕ → ℕ
-      d i = digit_of (at t i)
+  figures_say : is_angle latitude t ≡ true → figures t ≡ word figure_of (octet t)
+  figures_say a = let s = every_weaker is (small byte) is_small (octet t) (kinds a) in left_is s ∙ all_say (octet t) s (kinds a)
 
-      record Digits : Type 0 where
-        d2 : d 2 < 10
-        d3 : d 3 < 10
-        d4 : d 4 < 10
-        d5 : d 5 < 10
-        d7 : d 7 < 10
-        d8 : d 8 < 10
-        d9 : d 9 < 10
+  -- ---- the figures, each below 10
+  module _ (a : is_angle latitude t ≡ true) where
+    abbrev d : ℕ → ℕ
+    d i = digit_of (at t i)
 
-      every_digit : Digits
-      every_digit =
-          let e2 = both _ _ (both (every is (octet t)) (is_digit (at t 0) && is_digit (at t 1)) (is_angle_is ∙ a)).0 in
-          let e3 = both _ _ e2.1 in
-          let e4 = both _ _ e3.1 in
-          let e5 = both _ _ e4.1 in
-          let e6 = both (eqb (at t 6) full_stop) _ e5.1 in
-          let e7 = both _ _ e6.1 in
-          let e8 = both _ _ e7.1 in
-          let e9 = both (is_digit (at t 9)) true e8.1 in
-          record {
-            d2 = below_ten (at t 2) e2.0;
-            d3 = below_ten (at t 3) e3.0;
-            d4 = below_ten (at t 4) e4.0;
-            d5 = below_ten (at t 5) e5.0;
-            d7 = below_ten (at t 7) e7.0;
-            d8 = below_ten (at t 8) e8.0;
-            d9 = below_ten (at t 9) e9.0;
-          }
+    record Digits : Type 0 where
+      d2 : d 2 < 10
+      d3 : d 3 < 10
+      d4 : d 4 < 10
+      d5 : d 5 < 10
+      d7 : d 7 < 10
+      d8 : d 8 < 10
+      d9 : d 9 < 10
 
-      -- ---- in sixties
-      -- each figure with what is added to it, 10 where it is of tens, and the bit that is then tested
-      abbrev tens : List (ℕ × ℕ)
-      tens = (d 2 + 10, 16) ∷ (d 3, 0) ∷ (d 4 + 10, 16) ∷ (d 5, 0) ∷ (0, 0) ∷ (d 7, 0) ∷ (d 8, 0) ∷ (d 9 + 1, 0) ∷ []
+    every_digit : Digits
+    every_digit =
+        let e2 = both _ _ (kinds a) in
+        let e3 = both _ _ e2.1 in
+        let e4 = both _ _ e3.1 in
+        let e5 = both _ _ e4.1 in
+        let e6 = both (eqb (at t 6) full_stop) _ e5.1 in
+        let e7 = both _ _ e6.1 in
+        let e8 = both _ _ e7.1 in
+        let e9 = both (is_digit (at t 9)) true e8.1 in
+        record {
+          d2 = below_ten (at t 2) e2.0;
+          d3 = below_ten (at t 3) e3.0;
+          d4 = below_ten (at t 4) e4.0;
+          d5 = below_ten (at t 5) e5.0;
+          d7 = below_ten (at t 7) e7.0;
+          d8 = below_ten (at t 8) e8.0;
+          d9 = below_ten (at t 9) e9.0;
+        }
 
-      tens_small : every (small (λ (p : ℕ × ℕ). p.0)) tens ≡ true
-      tens_small =
-          let l : (n : ℕ) → n < 256 → ltb n 256 ≡ true = λ n h. lt-ltb n 256 h in
-          joined (l (d 2 + 10) (omega (arith, every_digit))) (joined (l (d 3) (omega (arith, every_digit)))
-          (joined (l (d 4 + 10) (omega (arith, every_digit))) (joined (l (d 5) (omega (arith, every_digit)))
-          (joined (l (d 7) (omega (arith, every_digit))) (joined (l (d 8) (omega (arith, every_digit)))
-          (joined (l (d 9 + 1) (omega (arith, every_digit))) refl))))))
+    -- ---- in sixties
+    -- each figure with what is added to it, 10 where it is of tens, and the bit that is then tested
+    abbrev tens : List (ℕ × ℕ)
+    tens = (d 2 + 10, 16) ∷ (d 3, 0) ∷ (d 4 + 10, 16) ∷ (d 5, 0) ∷ (0, 0) ∷ (d 7, 0) ∷ (d 8, 0) ∷ (d 9 + 1, 0) ∷ []
 
-      tens_are : figures t + 720586935495557121 ≡ word (λ (p : ℕ × ℕ). p.0) tens
-      tens_are = omega (arith, figures_say a)
+    tens_small : every (small (λ (p : ℕ × ℕ). p.0)) tens ≡ true
+    tens_small =
+        let l : (n : ℕ) → n < 256 → ltb n 256 ≡ true = λ n h. lt-ltb n 256 h in
+        joined (l (d 2 + 10) (omega (arith, every_digit))) (joined (l (d 3) (omega (arith, every_digit)))
+        (joined (l (d 4 + 10) (omega (arith, every_digit))) (joined (l (d 5) (omega (arith, every_digit)))
+        (joined (l (d 7) (omega (arith, every_digit))) (joined (l (d 8) (omega (arith, every_digit)))
+        (joined (l (d 9 + 1) (omega (arith, every_digit))) refl))))))
 
-      pub tens_fit : figures t + 720586935495557121 < 18446744073709551616
-      tens_fit = omega (arith, figures_say a, every_digit)
+    tens_are : figures t + 720586935495557121 ≡ word (λ (p : ℕ × ℕ). p.0) tens
+    tens_are = omega (arith, figures_say a)
 
-      pub sixties : eqb (bit_and (figures t + 720586935495557121) 1152939096792891392) 0 ≡ in_sixties latitude t
-      unfolding in_sixties
-      sixties =
-          ap (λ (n : ℕ). eqb (bit_and n 1152939096792891392) 0) tens_are
-          ∙ each (λ (p : ℕ × ℕ). p.0) (λ (p : ℕ × ℕ). p.1) tens tens_small refl
-          ∙ simp (and_zero_r, and-true, two_number 2 t (omega arith), two_number 4 t (omega arith), tens_below (d 2) (d 3) every_digit.d2 every_digit.d3, tens_below (d 4) (d 5) every_digit.d4 every_digit.d5)
+    pub tens_fit : figures t + 720586935495557121 < 18446744073709551616
+    tens_fit = omega (arith, figures_say a, every_digit)
 
-      -- ---- in pairs
-      shifted : figures t / 256 ≡ d 2 * 281474976710656 + d 3 * 1099511627776 + d 4 * 4294967296 + d 5 * 16777216 + d 7 * 256 + d 8
-      shifted = rw (figures_say a) (omega (arith, every_digit.d9))
+    pub sixties : eqb (bit_and (figures t + 720586935495557121) 1152939096792891392) 0 ≡ in_sixties latitude t
+    unfolding in_sixties
+    sixties =
+        ap (λ (n : ℕ). eqb (bit_and n 1152939096792891392) 0) tens_are
+        ∙ each (λ (p : ℕ × ℕ). p.0) (λ (p : ℕ × ℕ). p.1) tens tens_small refl
+        ∙ simp (and_zero_r, and-true, two_number 2 t (omega arith), two_number 4 t (omega arith), tens_below (d 2) (d 3) every_digit.d2 every_digit.d3, tens_below (d 4) (d 5) every_digit.d4 every_digit.d5)
 
-      paired :
-          figures t / 256 * 10 + figures t
-          ≡ d 2 * 72057594037927936 + (d 2 * 10 + d 3) * 281474976710656 + (d 3 * 10 + d 4) * 1099511627776
-          + (d 4 * 10 + d 5) * 4294967296 + d 5 * 167772160 + d 7 * 65536 + (d 7 * 10 + d 8) * 256 + (d 8 * 10 + d 9)
-      paired = rw shifted (omega (arith, figures_say a))
+    -- ---- in pairs
+    shifted : figures t / 256 ≡ d 2 * 281474976710656 + d 3 * 1099511627776 + d 4 * 4294967296 + d 5 * 16777216 + d 7 * 256 + d 8
+    shifted = rw (figures_say a) (omega (arith, every_digit.d9))
 
-      pub pairs_fit : figures t / 256 * 10 + figures t < 18446744073709551616
-      pairs_fit = rw paired (omega (arith, every_digit))
+    paired :
+        figures t / 256 * 10 + figures t
+        ≡ d 2 * 72057594037927936 + (d 2 * 10 + d 3) * 281474976710656 + (d 3 * 10 + d 4) * 1099511627776
+        + (d 4 * 10 + d 5) * 4294967296 + d 5 * 167772160 + d 7 * 65536 + (d 7 * 10 + d 8) * 256 + (d 8 * 10 + d 9)
+    paired = rw shifted (omega (arith, figures_say a))
 
-      pub pairs_say : InPairs (figures t / 256 * 10 + figures t) t
-      pairs_say =
-          let last = (d 7 * 10 + d 8) * 256 + (d 8 * 10 + d 9) in
-          let after-seconds = d 5 * 167772160 + d 7 * 65536 + last in
-          let after-minutes = (d 3 * 10 + d 4) * 1099511627776 + (d 4 * 10 + d 5) * 4294967296 + after-seconds in
-          let before-seconds = d 2 * 65536 + (d 2 * 10 + d 3) * 256 + (d 3 * 10 + d 4) in
-          let before-tenths = before-seconds * 65536 + (d 4 * 10 + d 5) * 256 + d 5 * 10 in
-          let minutes =
-          byte_at 281474976710656 (d 2) (d 2 * 10 + d 3) after-minutes
-          (omega (arith, every_digit)) (omega (arith, every_digit)) (paired ∙ omega arith) in
-          let seconds =
-          byte_at 4294967296 before-seconds (d 4 * 10 + d 5) after-seconds
-          (omega (arith, every_digit)) (omega (arith, every_digit)) (paired ∙ omega arith) in
-          let tenths = byte_at 65536 before-tenths (d 7) last (omega (arith, every_digit)) (omega (arith, every_digit)) (paired ∙ omega arith) in
-          let rest : (figures t / 256 * 10 + figures t) % 256 ≡ d 8 * 10 + d 9 =
-          ap (λ (j : ℕ). j % 256) (paired ∙ omega arith)
-          ∙ low (before-tenths * 65536 + d 7 * 256 + (d 7 * 10 + d 8)) (d 8 * 10 + d 9) (omega (arith, every_digit)) in (
-            minutes ∙ sym (two_number 2 t (omega arith)),
-            seconds ∙ sym (two_number 4 t (omega arith)),
-            rw (three_number 7 t (omega arith), two_number 8 t (omega arith)) (omega (arith, tenths, rest)),
-          )
+    pub pairs_fit : figures t / 256 * 10 + figures t < 18446744073709551616
+    pairs_fit = rw paired (omega (arith, every_digit))
+
+    pub pairs_say : InPairs (figures t / 256 * 10 + figures t) t
+    pairs_say =
+        let last = (d 7 * 10 + d 8) * 256 + (d 8 * 10 + d 9) in
+        let after-seconds = d 5 * 167772160 + d 7 * 65536 + last in
+        let after-minutes = (d 3 * 10 + d 4) * 1099511627776 + (d 4 * 10 + d 5) * 4294967296 + after-seconds in
+        let before-seconds = d 2 * 65536 + (d 2 * 10 + d 3) * 256 + (d 3 * 10 + d 4) in
+        let before-tenths = before-seconds * 65536 + (d 4 * 10 + d 5) * 256 + d 5 * 10 in
+        let minutes =
+        byte_at 281474976710656 (d 2) (d 2 * 10 + d 3) after-minutes
+        (omega (arith, every_digit)) (omega (arith, every_digit)) (paired ∙ omega arith) in
+        let seconds =
+        byte_at 4294967296 before-seconds (d 4 * 10 + d 5) after-seconds
+        (omega (arith, every_digit)) (omega (arith, every_digit)) (paired ∙ omega arith) in
+        let tenths = byte_at 65536 before-tenths (d 7) last (omega (arith, every_digit)) (omega (arith, every_digit)) (paired ∙ omega arith) in
+        let rest : (figures t / 256 * 10 + figures t) % 256 ≡ d 8 * 10 + d 9 =
+        ap (λ (j : ℕ). j % 256) (paired ∙ omega arith)
+        ∙ low (before-tenths * 65536 + d 7 * 256 + (d 7 * 10 + d 8)) (d 8 * 10 + d 9) (omega (arith, every_digit)) in (
+          minutes ∙ sym (two_number 2 t (omega arith)),
+          seconds ∙ sym (two_number 4 t (omega arith)),
+          rw (three_number 7 t (omega arith), two_number 8 t (omega arith)) (omega (arith, tenths, rest)),
+        )

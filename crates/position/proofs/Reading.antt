@@ -1,12 +1,9 @@
 -- What each return of a reading answers, by the tests that led there. Assumes nothing.
-use Rattle.std.proofs.Common.{◌≡◌, ℕ, ◌≤◌, Bool, true, false, not, ◌&&◌, eqb, List, length, ℤ, pos, neg_ℤ, sym, refl, ap, ◌∙◌, arith, eq-eqb, ne_eqb}
-use mathlib.Core.Bool.{and-false, false≢true}
-use lib.Signed.{le_z}
-use borrow.Author.Tests.{lt-leb}
+use Rattle.std.proofs.Common.{◌≡◌, ℕ, Bool, true, false, not, ◌&&◌, eqb, List, length, pos, neg_ℤ, sym, refl, ap, ◌∙◌, eq-eqb, ne_eqb}
 use Rattle.whole.proofs.Bools.{by_test, joined}
 use Rattle.kinds.proofs.Answers.{not_both, passed, same_value}
 use Rattle.kinds.specs.Answer.{Answer, gives, refused, provided, refusal_of}
-use Rattle.kinds.specs.Kinds.{is_longitude, tested}
+use Rattle.kinds.specs.Kinds.{tested}
 use Rattle.position.specs.Text.{Coordinate, letter_s, text_length, is_letter, letter, is_angle, in_sixties, angle, has_text, right_kinds, value, right_ranges, read}
 
 -- tests of which two fail, whatever the third

@@ -2,7 +2,7 @@
 // A longitude's text is a digit, for hundreds of degrees, and then a text of a latitude's form: so the work is done once.
 #![tactic(auto)]
 
-ghost use Rattle.std.specs.Prelude.{◌≡◌, ◌+◌, ◌%◌, ◌<◌, ◌≤◌, true, not, length, pos, neg_ℤ, ◌==◌, IfOk};
+ghost use Rattle.std.specs.Prelude.{◌≡◌, ◌+◌, ◌%◌, ◌<◌, ◌≤◌, true, not, length, pos, neg_ℤ, ◌==◌, false, IfOk, MatchOption};
 ghost use Rattle.whole.specs.Digits.{is_digit, digit_of, from_digits};
 ghost use Rattle.kinds.specs.Answer.{provided, counted, lent};
 ghost use Rattle.kinds.specs.Cases.{local_latitude, local_longitude, said, written};
@@ -11,7 +11,7 @@ ghost use Rattle.position.specs.Inside.{figures, InPairs, angle_said};
 ghost use Rattle.position.specs.Text.{latitude, longitude, degrees, is_angle, in_sixties, angle, read, spelled, write};
 
 use kinds::{LocalLatitude, LocalLongitude, Refusal, put};
-use numbers::four;
+use whole::last_digit;
 
 // Reads the 11 bytes `ddmmss.sssN` or `S` into ms, north positive: `900000.000N` is 324000000. Refused: 1 another length, 2 a
 // byte that is not of its kind, 3 minutes or seconds from 60 up, past 90°, or S after zero.
@@ -19,9 +19,9 @@ use numbers::four;
 pub fn read_latitude(text: &[u8]) -> Result<LocalLatitude, Refusal>
     ensures { local_latitude result ≡ read latitude text.now }
 {
-    if text.len() != LATITUDE_BYTES {
+    let Some(text) = text.as_array::<LATITUDE_BYTES>() else {
         return Err(Refusal::Length);
-    }
+    };
     let letter = text[10];
     if !((letter == b'N') | (letter == b'S')) {
         return Err(Refusal::Kind);
@@ -39,15 +39,16 @@ pub fn read_latitude(text: &[u8]) -> Result<LocalLatitude, Refusal>
 pub fn read_longitude(text: &[u8]) -> Result<LocalLongitude, Refusal>
     ensures { local_longitude result ≡ read longitude text.now }
 {
-    if text.len() != LONGITUDE_BYTES {
+    let Some(text) = text.as_array::<LONGITUDE_BYTES>() else {
         return Err(Refusal::Length);
-    }
+    };
     let hundreds = text[0];
-    let letter = text[11];
+    let rest = text[1..].as_array::<LATITUDE_BYTES>().unwrap();
+    let letter = rest[10];
     if !(is_digit(hundreds) & (letter == b'E')) {
         return Err(Refusal::Kind);
     }
-    let ms = read_angle(&text[1..])?;
+    let ms = read_angle(rest)?;
     LocalLongitude::new((digit(hundreds) * HUNDRED_DEGREES + ms) as i64)
 }
 
@@ -114,87 +115,90 @@ fn digit(b: u8) -> u64
     b as u64 - b'0' as u64
 }
 
-// Of the 11 bytes of a latitude's form: the ms that those before the letter say. t would go through memory, if it were handed on as
-// it came: `all` is a part of it, with every byte.
-fn read_angle(t: &[u8]) -> Result<u64, Refusal>
-    requires { length t.now ≡ 11 }
-    ensures value { said result ≡ angle_said t.now }
+// Of the bytes of a latitude's form: the ms that those before the letter say.
+fn read_angle(text: &[u8; LATITUDE_BYTES]) -> Result<u64, Refusal>
+    ensures value { said result ≡ angle_said text.now }
     ensures upper_bound { IfOk result (λ ms. ms < 400000000) }
 {
-    let all = &t[0..];
-    if !is_angle(all) {
+    let Some(digits) = Digits::of(text) else {
         return Err(Refusal::Kind);
-    }
-    if !in_sixties(all) {
+    };
+    if !digits.in_sixties() {
         return Err(Refusal::Range);
     }
-    Ok(angle(all))
+    Ok(digits.angle())
 }
 
-// They are digits and a point. A digit is 0x30 to 0x39, so what `figures` leaves of it is below 16, and still is with 6 more;
-// of the point it leaves nothing. A byte that carries into the next is none of these itself. Both tests of the word are one
-// expression, and the compiler makes one test of them.
-fn is_angle(t: &[u8]) -> bool
-    requires { length t.now ≡ 11 }
-    ensures { result ≡ is_angle latitude t.now }
-{
-    let word = figures(t);
-    let more = std::num::wrapping_add_u64(word, 0x0606_0606_0006_0606);
-    if !((word & NO_FIGURE == 0) & (more & NO_FIGURE == 0)) {
-        return false;
+// A text of which the bytes before the letter are digits and a point, and its figures. Only `of` makes one.
+#[derive(Clone, Copy)]
+struct Digits<'a> {
+    text: &'a [u8; LATITUDE_BYTES],
+    word: u64,
+    ghost long: { length text.now ≡ 11 },
+    ghost are: { is_angle latitude text.now ≡ true },
+    ghost word_is: { word ≡ figures text.now },
+}
+
+impl Digits<'_> {
+    // A digit is 0x30 to 0x39, so what `figures` leaves of it is below 16, and still is with 6 more; of the point it leaves
+    // nothing. A byte that carries into the next is none of these itself. Both tests of the word are one expression, and the
+    // compiler makes one test of them.
+    fn of(text: &[u8; LATITUDE_BYTES]) -> Option<Digits<'_>>
+        ensures { MatchOption result (is_angle latitude text.now ≡ false) (λ digits. digits.text.now ≡ text.now) }
+    {
+        let word = figures(text);
+        let more = std::num::wrapping_add_u64(word, 0x0606_0606_0006_0606);
+        if !((word & NO_FIGURE == 0) & (more & NO_FIGURE == 0)) {
+            return None;
+        }
+        if !(is_digit(text[0]) & is_digit(text[1])) {
+            return None;
+        }
+        Some(Digits { text, word })
     }
-    is_digit(t[0]) & is_digit(t[1])
+
+    // Minutes and seconds are below 60: their tens are below 16 with 10 more. The last 1 makes the sum one of all eight bytes; a
+    // compiler that finds it to be of three reads these apart.
+    fn in_sixties(self) -> bool
+        ensures { result ≡ in_sixties latitude self.entry.text.now }
+    {
+        (self.word + 0x0A00_0A00_0000_0001) & 0x1000_1000_0000_0000 == 0
+    }
+
+    // The ms that they say.
+    fn angle(self) -> u64
+        ensures value { result ≡ angle latitude self.entry.text.now }
+        ensures upper_bound { result < 400_000_000 }
+    {
+        let word = self.pairs();
+        self.degrees() * DEGREE
+            + word / MINUTES % 256 * MINUTE
+            + word / SECONDS % 256 * SECOND
+            + (word / TENTHS % 256 * 100 + word % 256)
+    }
+
+    fn degrees(self) -> u64
+        ensures value { result ≡ from_digits (degrees latitude self.entry.text.now) }
+        ensures upper_bound { result < 100 }
+    {
+        digit(self.text[0]) * 10 + digit(self.text[1])
+    }
+
+    // To each byte ten times the byte before it is added, so that every other byte says two digits.
+    fn pairs(self) -> u64
+        ensures { InPairs result self.entry.text.now }
+    {
+        self.word / 256 * 10 + self.word
+    }
 }
 
 // The eight bytes `mmss.sss` in one word, less the bits of `0000.000`.
-fn figures(t: &[u8]) -> u64
-    requires { length t.now ≡ 11 }
-    ensures { result ≡ figures t.now }
+fn figures(text: &[u8; LATITUDE_BYTES]) -> u64
+    ensures { result ≡ figures text.now }
 {
-    (four(t, 2) as u64 * 4_294_967_296 + four(t, 6) as u64) ^ 0x3030_3030_2E30_3030
-}
-
-// What they say: to each byte ten times the byte before it is added, so that every other byte says two digits.
-fn pairs(t: &[u8]) -> u64
-    requires t_len { length t.now ≡ 11 }
-    requires t_value { is_angle latitude t.now ≡ true }
-    ensures { InPairs result t.now }
-{
-    let word = figures(t);
-    word / 256 * 10 + word
-}
-
-fn degrees(t: &[u8]) -> u64
-    requires t_len { length t.now ≡ 11 }
-    requires t_value { is_angle latitude t.now ≡ true }
-    ensures value { result ≡ from_digits (degrees latitude t.now) }
-    ensures upper_bound { result < 100 }
-{
-    digit(t[0]) * 10 + digit(t[1])
-}
-
-// Minutes and seconds are below 60: their tens are below 16 with 10 more. The last 1 makes the sum one of all eight bytes; a
-// compiler that finds it to be of three reads these apart.
-fn in_sixties(t: &[u8]) -> bool
-    requires t_len { length t.now ≡ 11 }
-    requires t_value { is_angle latitude t.now ≡ true }
-    ensures { result ≡ in_sixties latitude t.now }
-{
-    (figures(t) + 0x0A00_0A00_0000_0001) & 0x1000_1000_0000_0000 == 0
-}
-
-// The ms that they say.
-fn angle(t: &[u8]) -> u64
-    requires t_len { length t.now ≡ 11 }
-    requires t_value { is_angle latitude t.now ≡ true }
-    ensures value { result ≡ angle latitude t.now }
-    ensures upper_bound { result < 400_000_000 }
-{
-    let word = pairs(t);
-    degrees(t) * DEGREE
-        + word / MINUTES % 256 * MINUTE
-        + word / SECONDS % 256 * SECOND
-        + (word / TENTHS % 256 * 100 + word % 256)
+    u64::from_be_bytes([
+        text[2], text[3], text[4], text[5], text[6], text[7], text[8], text[9],
+    ]) ^ 0x3030_3030_2E30_3030
 }
 
 // S is below zero, and not zero.
@@ -206,13 +210,6 @@ fn southern(ms: u64) -> Result<LocalLatitude, Refusal>
         return Err(Refusal::Range);
     }
     LocalLatitude::new(-(ms as i64))
-}
-
-// The last digit of n, as a byte.
-fn last_digit(n: u64) -> u8
-    ensures { result ≡ 48 + n % 10 }
-{
-    (n % 10) as u8 + b'0'
 }
 
 // ms as `dddmmss.sss`, and the letter. A latitude's text is this without its first digit. The last two of three digits are made

@@ -10,11 +10,10 @@ use lib.Dec.{leb}
 use lib.IntN.{ℤ}
 use lib.ListN.{length, get_or, take, drop, length-append, length-drop}
 use lib.Seq.{take_all}
-use borrow.Author.Tests.{lt-ltb, le-leb, lt-leb}
+use borrow.Author.Tests.{le-leb, lt-leb}
 use Rattle.std.specs.Simd.{first_chunks}
 use mir.Syntax.{w64}
 use mir.Val.{Fits, SFits, to_z, of_z}
-use Rattle.whole.proofs.Bools.{joined}
 use Rattle.whole.proofs.Every.{every_same}
 use Rattle.whole.proofs.Words.{of}
 use Rattle.whole.specs.Every.{every}
@@ -22,8 +21,8 @@ use Rattle.whole.specs.Places.{in_places}
 use Rattle.kinds.specs.Answer.{Answer, gives, refused, in_order, placed, counted, lent}
 use Rattle.kinds.proofs.Answers.{failed, own_or_behind, all_held, held, first_or_behind, first_failed, fails, in_two, following_tests}
 use Rattle.kinds.proofs.Bytes.{at, length_part}
-use Rattle.numbers.specs.Numbers.{are_bytes, in_bytes}
-use Rattle.numbers.proofs.Numbers.{part_back}
+use Rattle.numbers.specs.Numbers.{in_bytes}
+use Rattle.numbers.proofs.Numbers.{are_bytes_lem, part_back}
 use Rattle.layout.specs.Sheet.{serial, datums, codes, count, body, point, points, pieces, is_listed, serial_tests, listed_tests, said}
 use Rattle.layout.specs.Layout.{counts, laid_out, read_of}
 use Rattle.sheet.specs.Result.{in_record, answer_at, result_of, work_of}
@@ -33,11 +32,6 @@ use Rattle.sheet.proofs.Codes.{flagged}
 use Rattle.layout.proofs.Form.{pieces_counted, points_counted}
 use Rattle.layout.proofs.Reading.{Laid, serial_bytes, codes_are, front, in_front}
 use Rattle.sheet.proofs.Results.{records_long}
-
--- ---- bytes
-are_bytes_lem : (t : List ℕ) → ((i : ℕ) → at t i < 256) → are_bytes t ≡ true
-are_bytes_lem [] known = refl
-are_bytes_lem (b ∷ t) known = joined (lt-ltb b 256 (known 0)) (are_bytes_lem t (λ i. known (suc i)))
 
 -- ---- points and their records
 of_points : (ps : List (List ℕ)) → flat_map point_record ps ≡ flat_map (λ p. in_record (answer_at p)) (map point ps)

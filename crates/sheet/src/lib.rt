@@ -13,6 +13,7 @@ ghost use Rattle.sheet.specs.Inside.{flags, all_flagged, record_of, point_record
 use datum::{Given, Point};
 use kinds::Refusal;
 use layout::Layout;
+use numbers::unsigned;
 
 // Works the sheet of a unit: writes the result to the start of a lent buffer and says how many bytes, 6 and 13 for each point.
 // Refused, in the order of the sheet's bytes: 1 where it is cut or bytes follow, 9 where its serial is zero, a count is over
@@ -72,9 +73,9 @@ fn point(bytes: &[u8; layout::POINT]) -> Point
     ensures longitude_value { result.longitude ≡ pos (point bytes.now).longitude }
 {
     Point {
-        code: i64::from(numbers::one(bytes, 0)),
-        latitude: numbers::signed(numbers::four(bytes, 1)),
-        longitude: i64::from(numbers::four(bytes, 5)),
+        code: i64::from(unsigned::<1>(bytes, 0)),
+        latitude: numbers::signed(unsigned::<4>(bytes, 1)),
+        longitude: i64::from(unsigned::<4>(bytes, 5)),
     }
 }
 

@@ -1,8 +1,8 @@
-// Whole numbers: division rounded to the nearest, the product of two scaled numbers, a sign, and the laws that the toolchain's
-// library lacks. No geodesy.
+// Whole numbers: division rounded to the nearest, the product of two scaled numbers, a sign, a digit, and the laws that the
+// toolchain's library lacks. No geodesy.
 #![tactic(auto)]
 
-ghost use Rattle.std.specs.Prelude.{◌≡◌, ◌+◌, ◌*◌, ◌/◌, ◌<◌, ◌≤◌, nat_abs};
+ghost use Rattle.std.specs.Prelude.{◌≡◌, ◌+◌, ◌*◌, ◌/◌, ◌%◌, ◌<◌, ◌≤◌, nat_abs};
 ghost use Rattle.whole.specs.Round.{round_half_up, round_div, scale};
 ghost use Rattle.whole.specs.Sign.{with_sign};
 
@@ -53,4 +53,11 @@ pub fn scaled(p: u64, u: u64) -> u64
     let q = p / Parts::DIVISOR;
     let r = p - q * Parts::DIVISOR;
     q * u + nearest(r * u, Parts::DIVISOR)
+}
+
+// The last digit of n, as a byte.
+pub fn last_digit(n: u64) -> u8
+    ensures { result ≡ 48 + n % 10 }
+{
+    (n % 10) as u8 + b'0'
 }
