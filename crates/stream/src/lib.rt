@@ -41,9 +41,6 @@ const LIMIT: usize = 100_000_000;
 // the most bytes that are kept of a line: enough to see that it is too long
 const KEPT: usize = LINE + 1;
 
-// the most bytes of the line of a refusal: of a comment
-const REFUSED: usize = 19;
-
 // the bytes among which most lines have their line feed, with a carriage return before it or not
 const NEAR: usize = LINE + 2;
 
@@ -282,31 +279,19 @@ fn printed(form: Form, line: &[u8], out: &mut [u8]) -> usize
     }
 }
 
+// Prints that a line is refused: the text of the form, with the number added to the digit in it.
+#[tactic(auto, using(kinds::proofs::Demands::numbers_tabled), unfolding(crate::specs::Stream::refused_line))]
 fn refused(form: Form, why: Refusal, out: &mut [u8]) -> usize
     requires { length (refused_line form (number_of why)) ≤ length out.old }
     ensures value { result ≡ length (refused_line form (number_of why)) }
     ensures out_after { out.new ≡ refused_line form (number_of why) ++ drop result out.old }
 {
-    match form {
-        Form::Numbers => kinds::copy(&refused_line(why), out),
-        Form::Waypoints => kinds::copy(&comment(why), out),
-    }
-}
-
-#[tactic(auto, using(kinds::proofs::Demands::numbers_tabled), unfolding(crate::specs::Stream::refused_line))]
-fn refused_line(why: Refusal) -> [u8; 10]
-    ensures { result ≡ refused_line Numbers (number_of why) }
-{
-    let mut line = *b"refused 0\n";
-    line[8] = b'0' + why.number();
-    line
-}
-
-#[tactic(auto, using(kinds::proofs::Demands::numbers_tabled), unfolding(crate::specs::Stream::refused_line))]
-fn comment(why: Refusal) -> [u8; REFUSED]
-    ensures { result ≡ refused_line Waypoints (number_of why) }
-{
-    let mut line = *b"<!-- refused 0 -->\n";
-    line[13] = b'0' + why.number();
-    line
+    // a match, since a form is data that is chosen when the program runs
+    let (text, at) = match form {
+        Form::Numbers => (b"refused 0\n".as_slice(), 8),
+        Form::Waypoints => (b"<!-- refused 0 -->\n".as_slice(), 13),
+    };
+    let count = kinds::copy(text, out);
+    out[at] += why.number();
+    count
 }
