@@ -11,8 +11,8 @@ ghost use Rattle.stream.specs.Inside.{first_feed, Clear, AllClear, end_for};
 use kinds::Refusal;
 use line::{Form, LINE, WAYPOINT};
 
-// The first bytes of a line whose line feed has not come, in fixed memory: no heap. Of a longer line 27 are kept, which are refused as
-// it is.
+// The first bytes of a line whose line feed has not come. Of a longer line 27 are kept, which are refused as it is: an array and a count,
+// since memory is fixed, with no heap.
 #[derive(Clone, Copy)]
 pub struct Begun {
     bytes: [u8; KEPT],
@@ -49,12 +49,12 @@ const WORD: usize = 8;
 
 const BLOCK: usize = 128;
 
-impl Begun {
-    // No line is begun.
+// No line is begun.
+impl Default for Begun {
+    ghost is_default = { λ begun. begun ≡ kept [] };
+
     #[tactic(auto, unfolding(crate::specs::Stream::kept))]
-    fn none() -> Begun
-        ensures { result ≡ kept [] }
-    {
+    fn default() -> Begun {
         Begun {
             bytes: [0; KEPT],
             count: 0,
@@ -69,7 +69,7 @@ impl Reading {
     {
         Reading {
             form,
-            begun: Begun::none(),
+            begun: Begun::default(),
             left: LIMIT,
         }
     }
