@@ -39,8 +39,8 @@ PROGRAMS = {
 # functions that the first program of their crate does not reach, and the one that does: it is tried first then
 REACHED = {
     'test_waypoints': {'LocalPosition::shifted', 'wgs84', 'shifted', 'nine_places', 'billionths', 'up_to_three', 'put_waypoint',
-                       'comment', 'end_for'},
-    'lines --gpx': {'at_edge', 'run', 'in_form'}, 'lines --gpy': {'asked'},
+                       'end_for'},
+    'lines --gpx': {'edge_text', 'run', 'in_form'}, 'lines --gpy': {'asked'},
 }
 CHOOSER, MAIN = 'one_of_many', 'main_of_one'
 MOST = 30_000                  # lines of sources that are built as one

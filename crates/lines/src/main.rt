@@ -19,6 +19,12 @@ use std::io::{Read, Write};
 use std::{fmt, io};
 use stream::Reading;
 
+// how many bytes are read at a time
+const INPUT: usize = 65_536;
+
+// room for the answers of 2,428 lines, the most of 26 bytes that end in what is read at a time: 48 bytes for each
+const OUTPUT: usize = 116_544;
+
 // Where in an output a text stands that tells of no line: before the first, or after the last.
 #[derive(Clone, Copy)]
 enum Edge {
@@ -95,9 +101,8 @@ fn asked(words: usize, next: &[u8]) -> Option<Form>
 }
 
 fn in_form<E: Eprint, R: Read, W: Write>(rt: &E, form: Form, reader: &mut R, writer: &mut W) {
-    let mut input = [0; 65_536];
-    // room for the answers of 2,428 lines, the most of 26 bytes that end in what is read at a time: 48 bytes for each
-    let mut output = [0; 116_544];
+    let mut input = [0; INPUT];
+    let mut output = [0; OUTPUT];
     match run(form, reader, writer, &mut input, &mut output) {
         Ok(last) => tell(rt, form, last),
         Err(failure) => {
@@ -125,10 +130,9 @@ fn run<R: Read, W: Write>(
     form: Form,
     reader: &mut R,
     writer: &mut W,
-    input: &mut [u8],
-    output: &mut [u8],
+    input: &mut [u8; INPUT],
+    output: &mut [u8; OUTPUT],
 ) -> Result<Turn, Failure>
-    requires { (0 < length input.old) × (48 ≤ length output.old) }
     ensures ended { IfOk result (λ last. Ended form last last.handed) }
     ensures written { OnOk result (WritesOutput form (R.remaining reader.old) (W.contents writer.old) (W.contents writer.new)) }
 {
@@ -148,26 +152,19 @@ fn at_edge<W: Write>(writer: &mut W, edge: Edge, form: Form) -> io::Result<usize
     ensures value { IfOk result (λ bytes. bytes ≡ length (edge_text edge form)) }
     ensures written { OnOk result (Appends (W.contents writer.old) (W.contents writer.new) (edge_text edge form)) }
 {
-    match form {
-        Form::Numbers => write_edge(writer, edge, form, b""),
-        Form::Waypoints => match edge {
-            Edge::Head => write_edge(
-                writer,
-                edge,
-                form,
-                b"<?xml version=\"1.0\" encoding=\"UTF-8\"?>\n<gpx version=\"1.1\" creator=\"Buckettin\" xmlns=\"http://www.topografix.com/GPX/1/1\">\n",
-            ),
-            Edge::Foot => write_edge(writer, edge, form, b"</gpx>\n"),
-        },
-    }
+    handed_over(writer, edge_text(edge, form))
 }
 
-fn write_edge<W: Write>(writer: &mut W, edge: Edge, form: Form, text: &[u8]) -> io::Result<usize>
-    requires { text.now ≡ edge_text edge form }
-    ensures value { IfOk result (λ bytes. bytes ≡ length (edge_text edge form)) }
-    ensures written { OnOk result (Appends (W.contents writer.old) (W.contents writer.new) (edge_text edge form)) }
+fn edge_text(edge: Edge, form: Form) -> &'static [u8]
+    ensures { result.now ≡ edge_text edge form }
 {
-    handed_over(writer, text)
+    // a match, since a form is data, chosen when the program runs
+    match (form, edge) {
+        (Form::Numbers, _) => b"",
+        (Form::Waypoints, Edge::Head) =>
+            b"<?xml version=\"1.0\" encoding=\"UTF-8\"?>\n<gpx version=\"1.1\" creator=\"Buckettin\" xmlns=\"http://www.topografix.com/GPX/1/1\">\n",
+        (Form::Waypoints, Edge::Foot) => b"</gpx>\n",
+    }
 }
 
 // Reads and answers until no byte comes or none may be taken any more. The answer counts the bytes of the last read, and those that
@@ -176,10 +173,9 @@ fn read_all<R: Read, W: Write>(
     form: Form,
     reader: &mut R,
     writer: &mut W,
-    input: &mut [u8],
-    output: &mut [u8],
+    input: &mut [u8; INPUT],
+    output: &mut [u8; OUTPUT],
 ) -> Result<Turn, Failure>
-    requires { (0 < length input.old) × (48 ≤ length output.old) }
     ensures ended { IfOk result (λ last. Ended form last (length (head form) + last.handed + length (foot form))) }
     ensures written { OnOk result (WritesLines form (R.remaining reader.old) (W.contents writer.old) (W.contents writer.new)) }
 {
@@ -207,11 +203,10 @@ fn read<R: Read, W: Write>(
     reading: Reading,
     reader: &mut R,
     writer: &mut W,
-    input: &mut [u8],
-    output: &mut [u8],
+    input: &mut [u8; INPUT],
+    output: &mut [u8; OUTPUT],
 ) -> Result<Turn, Failure>
-    requires input_nonzero { (0 < length input.old) × (48 ≤ length output.old) }
-    requires left_nonzero { (0 < reading.left) × (reading.left ≤ limit) }
+    requires { (0 < reading.left) × (reading.left ≤ limit) }
     ensures answered { IfOk result (λ turn. (turn.count ≤ length input.new)
         × Answered reading (take turn.count input.new) turn.reading turn.handed) }
     ensures consumed { IfOk result (λ turn. Consumes (R.remaining reader.old) (R.remaining reader.new) (take turn.count input.new)) }
@@ -219,7 +214,7 @@ fn read<R: Read, W: Write>(
     ensures written { IfOk result (λ turn. Appends (W.contents writer.old) (W.contents writer.new)
         (answers reading.form (held reading.begun) (take turn.count input.new))) }
 {
-    let most = reading.left().min(input.len());
+    let most = reading.left().min(INPUT);
     let got = reader.read(&mut input[..most]);
     turned(got, reading, writer, &input[..most], output)
 }
@@ -231,9 +226,9 @@ fn turned<W: Write>(
     reading: Reading,
     writer: &mut W,
     piece: &[u8],
-    output: &mut [u8],
+    output: &mut [u8; OUTPUT],
 ) -> Result<Turn, Failure>
-    requires piece_nonzero { (0 < length piece.now) × (48 ≤ length output.old) }
+    requires piece_nonzero { 0 < length piece.now }
     requires piece_len_bound { (length piece.now ≤ reading.left) × (reading.left ≤ limit) }
     requires moved { IfOk got (λ count. count ≤ length piece.now) }
     ensures no_bytes { got ≡ Ok 0 → IsOk result }
@@ -254,10 +249,9 @@ fn answer<W: Write>(
     reading: Reading,
     writer: &mut W,
     piece: &[u8],
-    output: &mut [u8],
+    output: &mut [u8; OUTPUT],
 ) -> io::Result<Turn>
-    requires in_bounds { 48 ≤ length output.old }
-    requires piece_len_bound { (length piece.now ≤ reading.left) × (reading.left ≤ limit) }
+    requires { (length piece.now ≤ reading.left) × (reading.left ≤ limit) }
     ensures no_bytes { length piece.now ≡ 0 → IsOk result }
     ensures answered { IfOk result (λ turn. (turn.count ≡ length piece.now)
         × Answered reading piece.now turn.reading turn.handed) }
@@ -272,7 +266,7 @@ fn answer<W: Write>(
         let fed = stream::feed(next, &piece[from..], output);
         let put = fed.put;
         let to = from + fed.taken;
-        handed += write(next, writer, &piece[from..to], &output[..put])?;
+        handed += handed_over(writer, &output[..put])?;
         next = fed.reading;
         from = to;
     }
@@ -285,32 +279,17 @@ fn answer<W: Write>(
 }
 
 // Ends the input: answers a last line with bytes but no line feed.
-fn end<W: Write>(reading: Reading, writer: &mut W, output: &mut [u8]) -> io::Result<usize>
-    requires { 48 ≤ length output.old }
+fn end<W: Write>(reading: Reading, writer: &mut W, output: &mut [u8; OUTPUT]) -> io::Result<usize>
     ensures in_bounds { IfOk result (λ bytes. bytes ≤ length output.new) }
     ensures value { IfOk result (λ bytes. bytes ≡ length (answers reading.form (held reading.begun) (closing (held reading.begun)))) }
     ensures written { OnOk result (Appends (W.contents writer.old) (W.contents writer.new)
         (answers reading.form (held reading.begun) (closing (held reading.begun)))) }
 {
-    let line_feed = [b'\n'];
-    let fed = stream::finish(reading, output);
-    let taken = fed.taken;
-    let put = fed.put;
-    write(reading, writer, &line_feed[..taken], &output[..put])
+    let put = stream::finish(reading, output).put;
+    handed_over(writer, &output[..put])
 }
 
-// Hands over the answers of the lines that end in some bytes, all of them and from the start.
-fn write<W: Write>(reading: Reading, writer: &mut W, bytes: &[u8], put: &[u8]) -> io::Result<usize>
-    requires { put.now ≡ answers reading.form (held reading.begun) bytes.now }
-    ensures in_bounds { IfOk result (λ count. count ≤ length put.now) }
-    ensures value { IfOk result (λ count. count ≡ length (answers reading.form (held reading.begun) bytes.now)) }
-    ensures written { OnOk result (Appends (W.contents writer.old) (W.contents writer.new)
-        (answers reading.form (held reading.begun) bytes.now)) }
-{
-    handed_over(writer, put)
-}
-
-// By itself, so that no other bytes are at hand here.
+// Hands over some bytes, all of them and from the start.
 fn handed_over<W: Write>(writer: &mut W, put: &[u8]) -> io::Result<usize>
     ensures value { IfOk result (λ count. count ≡ length put.now) }
     ensures written { OnOk result (Appends (W.contents writer.old) (W.contents writer.new) put.now) }

@@ -2,7 +2,7 @@
 use mathlib.Core.Path.{◌≡◌, refl, sym, ap, ◌∙◌, subst}
 use mathlib.Core.Bool.{Bool, true, false}
 use mathlib.Core.List.{List, [], ◌∷◌, ◌++◌}
-use Prim.Native.Nat.{ℕ, zero, suc, ◌+◌, ◌-◌, ◌*◌, ◌/◌, ◌<◌, ◌≤◌}
+use Prim.Native.Nat.{ℕ, zero, suc, ◌+◌, ◌-◌, ◌*◌, ◌/◌, ◌%◌, ◌<◌, ◌≤◌}
 use native.Mathlib.Omega.{arith}
 use lib.Bits.{bit_and, bit_xor, and_block, xor_block, and_le_r, xor_lt}
 use lib.Dec.{eqb, ltb}
@@ -16,6 +16,7 @@ use Rattle.std.specs.List.{position_or_len}
 use Rattle.std.specs.Simd.{first_chunks}
 use Rattle.std.proofs.lemmas.Bool.{lt-ltb, ltb-true, ltb-false}
 use Rattle.std.proofs.lemmas.List.{drop-take}
+use Rattle.std.proofs.Math.Nat.{le-div_iff_mul-le, div-mul-le_self}
 use Rattle.std.proofs.lemmas.List.Quantifiers.{position-Some}
 use Rattle.whole.proofs.Bools.{by_test}
 use Rattle.kinds.proofs.Bytes.{at}
@@ -123,27 +124,6 @@ chunk_at k (suc n) (suc i) l d h =
     let e : k + i * k ≡ suc i * k = omega arith in
     chunk_at k n i (drop k l) d (omega arith) ∙ ap (take k) (drop-drop (i * k) k l ∙ ap (λ (j : ℕ). drop j l) e)
 
-module _ (l : List ℕ) (k n : ℕ) {ps : List (List ℕ)} (is_ps : ps ≡ first_chunks k n l) {i : ℕ} (less : i < n) (room : i * k + k ≤ length l) (clear : Clear (take (i * k) l)) where
-  one_is : (d : List ℕ) → first_feed (get_or ps i d) ≡ first_feed (take k (drop (i * k) l))
-  one_is d = ap (λ (qs : List (List ℕ)). first_feed (get_or qs i d)) is_ps ∙ ap first_feed (chunk_at k n i l d less)
-
-  within : i * k ≤ length l
-  within = omega (arith, room)
-
-  pub one_long : (d : List ℕ) → length (get_or ps i d) ≡ k
-  one_long d =
-      ap (λ (qs : List (List ℕ)). length (get_or qs i d)) is_ps
-      ∙ ap length (chunk_at k n i l d less)
-      ∙ length-take-le k (drop (i * k) l) (omega (arith, length-drop (i * k) l))
-
-  pub found_in : (d : List ℕ) {at : ℕ} → Some at ≡ first_feed (get_or ps i d) → Some (i * k + at) ≡ first_feed l
-  found_in d e = sym (there l (i * k) within clear k (sym (e ∙ one_is d)))
-
-  pub one_more : (d : List ℕ) → None ≡ first_feed (get_or ps i d) → Clear (take ((i + 1) * k) l)
-  one_more d e =
-      let f : i * k + k ≡ (i + 1) * k = omega arith in
-      subst (λ (j : ℕ). Clear (take j l)) f (further l (i * k) within clear k (sym (e ∙ one_is d)))
-
 all_clear : (k n : ℕ) (l : List ℕ) → n * k ≤ length l → AllClear (first_chunks k n l) → Clear (take (n * k) l)
 all_clear k zero l h clear = let e : 0 * k ≡ 0 = omega arith in ap (λ (j : ℕ). first_feed (take j l)) e
 all_clear k (suc n) l h clear =
@@ -162,22 +142,44 @@ pub words_clear : (l : List ℕ) {words : List (List ℕ)} (n : ℕ) → length 
 words_clear l n is-n is_words clear =
     all_clear 8 n l (omega (arith, is-n)) (subst (λ (ws : List (List ℕ)). AllClear ws) (is_words ∙ ap (λ (j : ℕ). first_chunks 8 j l) is-n) clear)
 
-pub block_clear : (block : List ℕ) {words : List (List ℕ)} → length block ≡ 128 → words ≡ first_chunks 8 (length block / 8) block → AllClear words → Clear block
-block_clear block long is_words clear =
-    subst (λ (l : List ℕ). Clear l) (take_all 128 block (omega (arith, long))) (words_clear block 16 (omega (arith, long)) is_words clear)
+pub piece_clear : (piece : List ℕ) {words : List (List ℕ)} → length piece % 8 ≡ 0 → words ≡ first_chunks 8 (length piece / 8) piece → AllClear words → Clear piece
+piece_clear piece whole is_words clear =
+    subst (λ (l : List ℕ). Clear l) (take_all (length piece / 8 * 8) piece (omega (arith, whole))) (words_clear piece (length piece / 8) refl is_words clear)
 
--- what is left behind them
-module _ (l : List ℕ) (k n : ℕ) (ps : List (List ℕ)) {rest : List ℕ} (count : length ps ≡ n) (is_rest : rest ≡ drop (n * k) l) (enough : n * k ≤ length l)
-    {i : ℕ} (low : i ≤ length ps) (high : length ps ≤ i) (clear : Clear (take (i * k) l)) where
-  all : Clear (take (n * k) l)
-  all = let e : i ≡ n = omega (arith, count) in subst (λ (j : ℕ). Clear (take (j * k) l)) e clear
+-- ---- as many pieces of k bytes as there are, of which those before the one at i are clear
+module _ (l : List ℕ) {k : ℕ} (some : 0 < k) (pieces : List (List ℕ)) (count : length pieces ≡ length l / k) {i : ℕ} (clear : Clear (take (i * k) l)) where
+  -- the one at i
+  module _ (is_pieces : pieces ≡ first_chunks k (length l / k) l) (less : i < length pieces) {piece : List ℕ} (is_piece : piece ≡ get_or pieces i piece) where
+    room : i * k + k ≤ length l
+    room = let h : (i + 1) * k ≤ length l = (le-div_iff_mul-le some).0 (omega (arith, less, count)) in omega (arith, h)
 
-  pub found_behind : {at : ℕ} → Some at ≡ first_feed rest → Some (length ps * k + at) ≡ first_feed l
-  found_behind {at} e =
-      ap (λ (j : ℕ). Some (j * k + at)) count ∙ sym (behind_some l (n * k) enough all (ap first_feed (sym is_rest) ∙ sym e))
+    piece_is : piece ≡ take k (drop (i * k) l)
+    piece_is = is_piece ∙ ap (λ (ps : List (List ℕ)). get_or ps i piece) is_pieces ∙ chunk_at k (length l / k) i l piece (omega (arith, less, count))
 
-  pub none_behind : None ≡ first_feed rest → None ≡ first_feed l
-  none_behind e = sym (behind_none l (n * k) enough all (ap first_feed (sym is_rest) ∙ sym e))
+    pub piece_long : length piece ≡ k
+    piece_long = ap length piece_is ∙ length-take-le k (drop (i * k) l) (omega (arith, room, length-drop (i * k) l))
+
+    pub found_in : {at : ℕ} → Some at ≡ first_feed piece → Some (i * k + at) ≡ first_feed l
+    found_in e = sym (there l (i * k) (omega (arith, room)) clear k (sym (e ∙ ap first_feed piece_is)))
+
+    pub one_more : None ≡ first_feed piece → Clear (take ((i + 1) * k) l)
+    one_more e =
+        let f : i * k + k ≡ (i + 1) * k = omega arith in
+        subst (λ (j : ℕ). Clear (take j l)) f (further l (i * k) (omega (arith, room)) clear k (sym (e ∙ ap first_feed piece_is)))
+
+  -- what is left behind them
+  module _ {rest : List ℕ} (is_rest : rest ≡ drop (length l / k * k) l) (low : i ≤ length pieces) (high : length pieces ≤ i) where
+    enough : length l / k * k ≤ length l
+    enough = div-mul-le_self (length l) k
+
+    all : Clear (take (length l / k * k) l)
+    all = let e : i ≡ length l / k = omega (arith, count) in subst (λ (j : ℕ). Clear (take (j * k) l)) e clear
+
+    pub found_behind : {at : ℕ} → Some at ≡ first_feed rest → Some (length pieces * k + at) ≡ first_feed l
+    found_behind {at} e = ap (λ (j : ℕ). Some (j * k + at)) count ∙ sym (behind_some l (length l / k * k) enough all (ap first_feed (sym is_rest) ∙ sym e))
+
+    pub none_behind : None ≡ first_feed rest → None ≡ first_feed l
+    none_behind e = sym (behind_none l (length l / k * k) enough all (ap first_feed (sym is_rest) ∙ sym e))
 
 -- ---- the first 28 bytes: three words that are clear, and four bytes
 module _ (l near rest : List ℕ) (is_near : near ≡ take 28 l) (is_rest : rest ≡ drop 28 l) (cut : length rest + 28 ≡ length l) {words : List (List ℕ)} {last : List ℕ}

@@ -2,7 +2,8 @@
 // bytes may be taken; and in which form its lines are answered.
 #![tactic(auto)]
 
-ghost use Rattle.std.specs.Prelude.{◌≡◌, true, [], ◌++◌, ◌+◌, ◌<◌, ◌≤◌, length, take, drop};
+ghost use Rattle.std.specs.Prelude.{◌≡◌, true, [], ◌++◌, ◌+◌, ◌%◌, ◌<◌, ◌≤◌, length, take, drop, slice_set};
+ghost use Rattle.whole.specs.Digits.{byte_of};
 ghost use Rattle.kinds.specs.Answer.{number_of};
 ghost use Rattle.line.specs.declared.Form.TheVariants.{Numbers, Waypoints};
 ghost use Rattle.stream.specs.Stream.{refused_line, printed, held, kept, started, after, at_end, taken_of, answers, closing};
@@ -11,8 +12,8 @@ ghost use Rattle.stream.specs.Inside.{first_feed, Clear, AllClear, end_for};
 use kinds::Refusal;
 use line::{Form, LINE, WAYPOINT};
 
-// The first bytes of a line whose line feed has not come, in fixed memory: no heap. Of a longer line 27 are kept, which are refused as
-// it is.
+// The first bytes of a line whose line feed has not come. Of a longer line 27 are kept, which are refused as it is: an array and a count,
+// since memory is fixed, with no heap.
 #[derive(Clone, Copy)]
 pub struct Begun {
     bytes: [u8; KEPT],
@@ -41,9 +42,6 @@ const LIMIT: usize = 100_000_000;
 // the most bytes that are kept of a line: enough to see that it is too long
 const KEPT: usize = LINE + 1;
 
-// the most bytes of the line of a refusal: of a comment
-const REFUSED: usize = 19;
-
 // the bytes among which most lines have their line feed, with a carriage return before it or not
 const NEAR: usize = LINE + 2;
 
@@ -52,12 +50,12 @@ const WORD: usize = 8;
 
 const BLOCK: usize = 128;
 
-impl Begun {
-    // No line is begun.
+// No line is begun.
+impl Default for Begun {
+    ghost is_default = { λ begun. begun ≡ kept [] };
+
     #[tactic(auto, unfolding(crate::specs::Stream::kept))]
-    fn none() -> Begun
-        ensures { result ≡ kept [] }
-    {
+    fn default() -> Begun {
         Begun {
             bytes: [0; KEPT],
             count: 0,
@@ -72,7 +70,7 @@ impl Reading {
     {
         Reading {
             form,
-            begun: Begun::none(),
+            begun: Begun::default(),
             left: LIMIT,
         }
     }
@@ -153,7 +151,7 @@ pub fn finish(reading: Reading, out: &mut [u8]) -> Fed
 }
 
 // Where the first line feed is, if one is. Before the line feed of most lines are 26 bytes, or 27 with a carriage return: so 24 are
-// tested as words, and four by themselves.
+// tested as words, and four by themselves. A longer line is searched by blocks, and those in which a line feed may be by words.
 fn line_feed(bytes: &[u8]) -> Option<usize>
     ensures { result ≡ first_feed bytes.now }
 {
@@ -167,38 +165,36 @@ fn line_feed(bytes: &[u8]) -> Option<usize>
     if let Some(at) = find(last) {
         return Some(words.len() * WORD + at);
     }
-    Some(NEAR + by_blocks(rest)?)
-}
-
-// The same, for a line that is longer: by blocks, and where a line feed may be, by words.
-fn by_blocks(bytes: &[u8]) -> Option<usize>
-    ensures { result ≡ first_feed bytes.now }
-{
-    let (blocks, rest) = bytes.as_chunks::<BLOCK>();
-    for (i, block) in blocks.iter().enumerate() {
-        let (words, _) = block.as_chunks::<WORD>();
-        if !are_clear(words) {
-            if let Some(at) = by_words(block) {
-                return Some(i * BLOCK + at);
-            }
-        }
-    }
-    Some(blocks.len() * BLOCK + by_words(rest)?)
+    Some(NEAR + by_pieces::<BLOCK, _>(rest, by_words)?)
 }
 
 // The same, by words, and where a line feed may be, by bytes.
 fn by_words(bytes: &[u8]) -> Option<usize>
     ensures { result ≡ first_feed bytes.now }
 {
-    let (words, rest) = bytes.as_chunks::<WORD>();
-    for (i, word) in words.iter().enumerate() {
-        if !is_clear(*word) {
-            if let Some(at) = find(word) {
-                return Some(i * WORD + at);
+    by_pieces::<WORD, _>(bytes, find)
+}
+
+// The same, by pieces of whole words, and where a line feed may be in one, as the parameter finds it.
+fn by_pieces<const N: usize, F: Fn(&[u8]) -> Option<usize>>(
+    bytes: &[u8],
+    find_in: F,
+) -> Option<usize>
+    requires size { (0 < N) × (N ≤ 128) × (N % 8 ≡ 0) }
+    requires callable { F.IsAlwaysCallable find_in }
+    requires finds { (part : _) (found : _) → F.post find_in part found → found ≡ first_feed part.now }
+    ensures { result ≡ first_feed bytes.now }
+{
+    let (pieces, rest) = bytes.as_chunks::<N>();
+    for (i, piece) in pieces.iter().enumerate() {
+        let (words, _) = piece.as_chunks::<WORD>();
+        if !are_clear(words) {
+            if let Some(at) = find_in(piece) {
+                return Some(i * N + at);
             }
         }
     }
-    Some(words.len() * WORD + find(rest)?)
+    Some(pieces.len() * N + find_in(rest)?)
 }
 
 // The same, by bytes.
@@ -282,31 +278,27 @@ fn printed(form: Form, line: &[u8], out: &mut [u8]) -> usize
     }
 }
 
+// Prints that a line is refused.
+#[tactic(auto, unfolding(crate::specs::Stream::refused_line))]
 fn refused(form: Form, why: Refusal, out: &mut [u8]) -> usize
     requires { length (refused_line form (number_of why)) ≤ length out.old }
     ensures value { result ≡ length (refused_line form (number_of why)) }
     ensures out_after { out.new ≡ refused_line form (number_of why) ++ drop result out.old }
 {
+    // a match, since a form is data, chosen when the program runs; with one copy after it a refused line takes 19 to 30 % more instructions
     match form {
-        Form::Numbers => kinds::copy(&refused_line(why), out),
-        Form::Waypoints => kinds::copy(&comment(why), out),
+        Form::Numbers => kinds::copy(&numbered(b"refused 0\n", 8, why), out),
+        Form::Waypoints => kinds::copy(&numbered(b"<!-- refused 0 -->\n", 13, why), out),
     }
 }
 
-#[tactic(auto, using(kinds::proofs::Demands::numbers_tabled), unfolding(crate::specs::Stream::refused_line))]
-fn refused_line(why: Refusal) -> [u8; 10]
-    ensures { result ≡ refused_line Numbers (number_of why) }
+// A text with the digit of a refusal's number at a place.
+#[tactic(auto, using(kinds::proofs::Demands::numbers_tabled))]
+fn numbered<const N: usize>(text: &[u8; N], at: usize, why: Refusal) -> [u8; N]
+    requires { at < N }
+    ensures { result ≡ slice_set text.now at (byte_of (number_of why)) }
 {
-    let mut line = *b"refused 0\n";
-    line[8] = b'0' + why.number();
-    line
-}
-
-#[tactic(auto, using(kinds::proofs::Demands::numbers_tabled), unfolding(crate::specs::Stream::refused_line))]
-fn comment(why: Refusal) -> [u8; REFUSED]
-    ensures { result ≡ refused_line Waypoints (number_of why) }
-{
-    let mut line = *b"<!-- refused 0 -->\n";
-    line[13] = b'0' + why.number();
+    let mut line = *text;
+    line[at] = b'0' + why.number();
     line
 }

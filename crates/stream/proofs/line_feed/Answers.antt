@@ -5,8 +5,8 @@ use Rattle.stream.proofs.line_feed.Goals as goal
 pub returns-in-Some-find : goal.returns-in-Some-find
 returns-in-Some-find c = found_near c.args.bytes.now c.in-Some.near.now c.in-Some.rest.now c.in-Some.ensures.cases.0 c.in-Some.ensures.cases.1 c.in-Some.ensures.cases.2 c.as_chunks.ensures.front c.as_chunks.ensures.front_len c.as_chunks.ensures.back (c.are_clear.ensures c.if-not-are_clear.false) c.in-Some-find.ensures
 
-pub returns-in_err-by_blocks : goal.returns-in_err-by_blocks
-returns-in_err-by_blocks c = c.from_residual.ensures ∙ none_far c.args.bytes.now c.in-Some.near.now c.in-Some.rest.now c.in-Some.ensures.cases.0 c.in-Some.ensures.cases.1 c.in-Some.ensures.cases.2 c.as_chunks.ensures.front c.as_chunks.ensures.front_len c.as_chunks.ensures.back (c.are_clear.ensures c.if-not-are_clear.false) c.in_default-find.ensures c.in_err-by_blocks.ensures
+pub returns-in_err-by_pieces : goal.returns-in_err-by_pieces
+returns-in_err-by_pieces c = c.from_residual.ensures ∙ none_far c.args.bytes.now c.in-Some.near.now c.in-Some.rest.now c.in-Some.ensures.cases.0 c.in-Some.ensures.cases.1 c.in-Some.ensures.cases.2 c.as_chunks.ensures.front c.as_chunks.ensures.front_len c.as_chunks.ensures.back (c.are_clear.ensures c.if-not-are_clear.false) c.in_default-find.ensures c.in_err-by_pieces.ensures
 
 pub returns : goal.returns
-returns c = found_far c.args.bytes.now c.in-Some.near.now c.in-Some.rest.now c.in-Some.ensures.cases.0 c.in-Some.ensures.cases.1 c.in-Some.ensures.cases.2 c.as_chunks.ensures.front c.as_chunks.ensures.front_len c.as_chunks.ensures.back (c.are_clear.ensures c.if-not-are_clear.false) c.in_default-find.ensures c.in_ok-by_blocks.ensures
+returns c = found_far c.args.bytes.now c.in-Some.near.now c.in-Some.rest.now c.in-Some.ensures.cases.0 c.in-Some.ensures.cases.1 c.in-Some.ensures.cases.2 c.as_chunks.ensures.front c.as_chunks.ensures.front_len c.as_chunks.ensures.back (c.are_clear.ensures c.if-not-are_clear.false) c.in_default-find.ensures c.in_ok-by_pieces.ensures

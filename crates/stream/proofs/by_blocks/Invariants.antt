@@ -1,6 +1,0 @@
-use Rattle.std.proofs.Common.{◌*◌, take}
-use Rattle.stream.specs.Inside.{Clear}
-use Rattle.stream.proofs.by_blocks.Given as goal
-
-abbrev pub invariant-loop-i : goal.invariant-loop-i
-invariant-loop-i l = Clear (take (l.i * 128) l.bytes)
