@@ -24,6 +24,8 @@ use Rattle.kinds.specs.declared.LocalPosition.{LocalPosition}
 use Rattle.kinds.specs.declared.AngleShift.{AngleShift}
 use Rattle.kinds.specs.declared.Height.{Height}
 use Rattle.kinds.specs.declared.Refusal.{Refusal}
+use Rattle.kinds.specs.contracts.RefusalOrd.TheImpl.{ghosts}
+use Rattle.std.specs.Ordering.{nat_cmp}
 use Rattle.kinds.specs.declared.Refusal.TheVariants.{Length, Kind, Range, Code, Family, Area, Room, Foreign, Sheet}
 use Rattle.kinds.proofs.Answers.{not_both, same_value, passed, failed, all_held, held, first_or_behind, first_failed, fails, same_refusal, determined}
 
@@ -43,6 +45,10 @@ numbers_tabled Area = (omega arith, omega arith)
 numbers_tabled Room = (omega arith, omega arith)
 numbers_tabled Foreign = (omega arith, omega arith)
 numbers_tabled Sheet = (omega arith, omega arith)
+
+-- and refusals are compared as their numbers are
+pub compared_by_number : (r s : Refusal) → ghosts.cmp r s ≡ nat_cmp (number_of r) (number_of s)
+compared_by_number r s = grind arith
 
 -- an answer is refused with n, above 0, exactly where n is its number
 pub by_number : {A : Type 0} (answer : Answer A) (n : ℕ) → 0 < n → (answer ≡ refused n) ↔ (refusal_of answer ≡ n)

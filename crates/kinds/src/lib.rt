@@ -11,7 +11,7 @@ ghost use Rattle.kinds.specs.Cases.{local_latitude, local_longitude, local_posit
 ghost use Rattle.kinds.specs.Kinds.{within, is_latitude, is_longitude, is_position, is_wgs84_latitude, is_wgs84_longitude, is_four_bytes, tested, converted};
 
 // Why a call is refused, in the order of document 01's numbers.
-#[derive(Clone, Copy, Debug, PartialEq, Eq, Hash)]
+#[derive(Clone, Copy, Debug, PartialEq, Eq, PartialOrd, Ord, Hash)]
 pub enum Refusal {
     // a text, line or sheet has the wrong length
     Length,

@@ -95,12 +95,10 @@ fn first_refusal(latitude: Refusal, text: &[u8]) -> Refusal
     if latitude == Refusal::Kind {
         return latitude;
     }
-    if let Err(why) = position::read_longitude(text) {
-        if why.number() < latitude.number() {
-            return why;
-        }
+    match position::read_longitude(text) {
+        Ok(_) => latitude,
+        Err(why) => latitude.min(why),
     }
-    latitude
 }
 
 // Answers the point of a line that was read.
