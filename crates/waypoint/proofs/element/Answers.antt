@@ -19,24 +19,24 @@ few y longitude e h = subst (λ (z : ℤ). nat_abs z < 1000000000000) (sym e) (f
 
 pub labelled-middle-requires : goal.labelled-middle-requires
 labelled-middle-requires c =
-    let below = low _ c.args.position.latitude.0 (held (record { sfits = c.north.type_inv }) c.north.ensures) c.requires.0.0 in
-    (omega (arith, below), omega (arith, c.requires.1))
+    let below = low _ c.args.position.latitude.0 (held (record { sfits = c.north.type_inv }) c.north.ensures) c.args.position.printable.0 in
+    (omega (arith, below), omega (arith, c.requires))
 
 pub labelled-requires : goal.labelled-requires
 labelled-requires c =
-    let below = low _ c.args.position.latitude.0 (held (record { sfits = c.north.type_inv }) c.north.ensures) c.requires.0.0 in
+    let below = low _ c.args.position.latitude.0 (held (record { sfits = c.north.type_inv }) c.north.ensures) c.args.position.printable.0 in
     let p = c.labelled-middle.ensures in (
-      few _ c.args.position.longitude.0 (held (record { sfits = c.east.type_inv }) c.east.ensures) c.requires.0.1,
-      second_room _ below c.args.line.now c.requires.1 _ p.value p.line_after,
+      few _ c.args.position.longitude.0 (held (record { sfits = c.east.type_inv }) c.east.ensures) c.args.position.printable.1,
+      second_room _ below c.args.line.now c.requires _ p.value p.line_after,
     )
 
 pub copy-requires : goal.copy-requires
 copy-requires c =
-    let below = low _ c.args.position.latitude.0 (held (record { sfits = c.north.type_inv }) c.north.ensures) c.requires.0.0 in
-    let below' = few _ c.args.position.longitude.0 (held (record { sfits = c.east.type_inv }) c.east.ensures) c.requires.0.1 in
+    let below = low _ c.args.position.latitude.0 (held (record { sfits = c.north.type_inv }) c.north.ensures) c.args.position.printable.0 in
+    let below' = few _ c.args.position.longitude.0 (held (record { sfits = c.east.type_inv }) c.east.ensures) c.args.position.printable.1 in
     let p = c.labelled-middle.ensures in
     let q = c.labelled.ensures in
-    third_room _ below c.args.line.now c.requires.1 _ p.value p.line_after _ below' q.value q.line_after
+    third_room _ below c.args.line.now c.requires _ p.value p.line_after _ below' q.value q.line_after
 
 pub returns : goal.returns
 returns c =
@@ -46,5 +46,5 @@ returns c =
     let q = c.labelled.ensures in
     let latitude = c.args.position.latitude.0 in
     let longitude = c.args.position.longitude.0 in
-    let w = element_written _ (low _ latitude is_x c.requires.0.0) c.args.line.now c.requires.1 _ p.value p.line_after _ (few _ longitude is_y c.requires.0.1) q.value q.line_after c.copy.ensures.value c.copy.ensures.out_after latitude longitude is_x is_y in
+    let w = element_written _ (low _ latitude is_x c.args.position.printable.0) c.args.line.now c.requires _ p.value p.line_after _ (few _ longitude is_y c.args.position.printable.1) q.value q.line_after c.copy.ensures.value c.copy.ensures.out_after latitude longitude is_x is_y in
     record { value = w.0; line_after = w.1 }

@@ -1,14 +1,9 @@
-use Rattle.std.proofs.Common.{sym, ◌∙◌}
+use Rattle.std.proofs.Common.{◌∙◌}
 use Rattle.kinds.proofs.Answers.{handed_on}
 use Rattle.kinds.proofs.Calls.{came}
 use Rattle.datum.specs.Point.{converted_of}
-use Rattle.waypoint.proofs.Positions.{printable, position_put, none_put}
+use Rattle.waypoint.proofs.Positions.{position_put, none_put}
 use Rattle.waypoint.proofs.waypoint.Goals as goal
-
-pub put_element-requires : goal.put_element-requires
-put_element-requires c =
-    let s = c.args in
-    printable s.code s.latitude s.longitude (sym (c.in_ok-position.ensures ∙ came c.ranges.code c.ranges.latitude c.ranges.longitude converted_of))
 
 pub returns : goal.returns
 returns c =
