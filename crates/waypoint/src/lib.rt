@@ -7,7 +7,7 @@ ghost use Rattle.kinds.specs.Cases.{written};
 ghost use Rattle.decimal.specs.Decimal.{nine_places};
 ghost use Rattle.waypoint.specs.Waypoint.{degrees, east_or_west, element, waypoint_of};
 
-use decimal::nine_places;
+use decimal::{Degrees, nine_places};
 use kinds::{Refusal, Wgs84Position, put};
 
 // the most bytes of an element
@@ -50,33 +50,38 @@ pub fn element(position: Wgs84Position, line: &mut [u8]) -> usize
 
 // A label and the decimal degrees that it stands before. A call of it would take a waypoint 51 instructions.
 #[inline(always)]
-fn labelled(label: &[u8], billionths: i64, line: &mut [u8]) -> usize
-    requires { (nat_abs billionths < 1000000000000) × (length label.now + 14 ≤ length line.old) }
-    ensures value { result ≡ length (label.now ++ nine_places billionths) }
-    ensures line_after { line.new ≡ (label.now ++ nine_places billionths) ++ drop result line.old }
+fn labelled(label: &[u8], number: Degrees, line: &mut [u8]) -> usize
+    requires { length label.now + 14 ≤ length line.old }
+    ensures value { result ≡ length (label.now ++ nine_places number.billionths) }
+    ensures line_after { line.new ≡ (label.now ++ nine_places number.billionths) ++ drop result line.old }
 {
     let start = kinds::copy(label, line);
-    start + nine_places(billionths, &mut line[start..])
+    start + nine_places(number, &mut line[start..])
 }
 
-// The latitude in billionths of a degree.
-fn north(position: Wgs84Position) -> i64
-    ensures { result ≡ degrees position.latitude.0 }
+// The latitude of a position.
+fn north(position: Wgs84Position) -> Degrees
+    ensures { result.billionths ≡ degrees position.latitude.0 }
 {
     let latitude = position.latitude;
-    in_billionths(latitude.units())
+    Degrees {
+        billionths: in_billionths(latitude.units()),
+    }
 }
 
-// The longitude likewise, from -180° up to but not 180°.
-fn east(position: Wgs84Position) -> i64
-    ensures { result ≡ east_or_west (degrees position.longitude.0) }
+// Its longitude, from -180° up to but not 180°.
+fn east(position: Wgs84Position) -> Degrees
+    ensures { result.billionths ≡ east_or_west (degrees position.longitude.0) }
 {
     let longitude = position.longitude;
     let rounded = in_billionths(longitude.units());
     if HALF_TURN <= rounded {
-        rounded - 2 * HALF_TURN
-    } else {
-        rounded
+        return Degrees {
+            billionths: rounded - 2 * HALF_TURN,
+        };
+    }
+    Degrees {
+        billionths: rounded,
     }
 }
 

@@ -9,11 +9,11 @@ pub returns : goal.returns
 returns c =
     let s = c.args in
     let p = c.put_element.ensures in
-    let w = position_put s.code s.latitude s.longitude (λ bytes. bytes) s.out.now (c.in_ok-position.ensures ∙ came c.ranges.code c.ranges.latitude c.ranges.longitude converted_of) (p.result_value, p.out_after) in
+    let w = position_put s.code s.latitude s.longitude s.out.now (c.in_ok-position.ensures ∙ came c.ranges.code c.ranges.latitude c.ranges.longitude converted_of) (p.result_value, p.out_after) in
     record { result_value = w.0; out_after = w.1 }
 
 pub returns-in_err-position : goal.returns-in_err-position
 returns-in_err-position c =
     let s = c.args in
-    let w = none_put s.code s.latitude s.longitude (λ bytes. bytes) s.out.now (c.in_err-position.ensures ∙ came c.ranges.code c.ranges.latitude c.ranges.longitude converted_of) in
+    let w = none_put s.code s.latitude s.longitude s.out.now (c.in_err-position.ensures ∙ came c.ranges.code c.ranges.latitude c.ranges.longitude converted_of) in
     record { result_value = handed_on (λ n. n) c.from_residual.result _ c.from_residual.ensures.1 ∙ w.0; out_after = w.1 }
