@@ -70,14 +70,15 @@ fn read(text: &[u8]) -> Result<Place, Refusal>
         return Err(Refusal::Length);
     }
     let code = text[0];
-    if !((b'0' <= code) & (code <= b'9') & (text[1] == b' ') & (text[13] == b' ')) {
+    let is_digit = code.is_ascii_digit();
+    if !(is_digit & (text[1] == b' ') & (text[13] == b' ')) {
         return Err(Refusal::Kind);
     }
     match position::read_latitude(&text[2..13]) {
         Ok(latitude) => {
             let longitude = position::read_longitude(&text[14..26])?;
             Ok(Place {
-                code: (code - b'0') as i64,
+                code: i64::from(code - b'0'),
                 latitude,
                 longitude,
             })
@@ -107,6 +108,7 @@ fn laid(form: Form, place: Place, line: &mut [u8; WAYPOINT]) -> Result<usize, Re
     ensures result_value { written result ≡ counted (text_of form (place_says place)) }
     ensures line_after { line.new ≡ lent (text_of form (place_says place)) line.old }
 {
+    // a form is data, which is chosen when the program runs and which `Reading` of `stream` carries
     match form {
         Form::Numbers => numbers_line(place, line),
         Form::Waypoints => waypoint_line(place, line),
