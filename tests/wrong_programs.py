@@ -38,7 +38,7 @@ PROGRAMS = {
 
 # functions that the first program of their crate does not reach, and the one that does: it is tried first then
 REACHED = {
-    'test_waypoints': {'LocalPosition::shifted', 'wgs84', 'shifted', 'nine_places', 'billionths', 'up_to_three', 'put_waypoint',
+    'test_waypoints': {'LocalPosition::shifted', 'wgs84', 'shifted', 'nine_places', 'billionths', 'up_to_three', 'waypoint_line',
                        'end_for'},
     'lines --gpx': {'edge_text', 'run', 'in_form'}, 'lines --gpy': {'asked'},
 }

@@ -18,12 +18,20 @@ pub fn number_and(n: i32, next: u8, line: &mut [u8]) -> usize
     at + 1
 }
 
-// A number of billionths, with nine places, at the start of what is lent: `-0.500000000`.
-pub fn nine_places(n: i64, line: &mut [u8]) -> usize
-    requires { (nat_abs n < 1000000000000) × (14 ≤ length line.old) }
-    ensures value { result ≡ length (nine_places n) }
-    ensures line_after { line.new ≡ nine_places n ++ drop result line.old }
+// Decimal degrees: a number of billionths of a degree, below 1,000 degrees.
+#[derive(Clone, Copy)]
+pub struct Degrees {
+    pub billionths: i64,
+    pub ghost few: { nat_abs billionths < 1000000000000 },
+}
+
+// Decimal degrees with nine places, at the start of what is lent: `-0.500000000`.
+pub fn nine_places(degrees: Degrees, line: &mut [u8]) -> usize
+    requires { 14 ≤ length line.old }
+    ensures value { result ≡ length (nine_places degrees.billionths) }
+    ensures line_after { line.new ≡ nine_places degrees.billionths ++ drop result line.old }
 {
+    let n = degrees.billionths;
     let sign = minus(n < 0, line);
     sign + billionths(n.unsigned_abs(), &mut line[sign..])
 }

@@ -8,7 +8,8 @@ use lib.ListN.{length, take, drop, get_or, set, length-append, length-drop, drop
 use lib.Seq.{take-length, take_all, take_at, drop_at, drop-cons, drop-drop, set_at, append_snoc}
 use borrow.Rule.Slice.PartMut.{put_mid}
 use borrow.Author.Tests.{le-leb, lt-leb}
-use Rattle.kinds.specs.Answer.{Answer, gives, refused, placed, counted, lent}
+use Rattle.kinds.specs.Answer.{Answer, gives, refused, placed, counted, lent, following}
+use Rattle.kinds.proofs.Answers.{not_both, same_value}
 
 -- what is to be written was written: a is the answer, and l the buffer afterwards
 abbrev pub Written : Answer (List ℕ) → List ℕ → Answer ℕ → List ℕ → Type 0
@@ -55,19 +56,42 @@ module _ (p d : List ℕ) {e : List ℕ} {b : ℕ} (is-e : e ≡ p ++ drop b d) 
   pub grown_by : (text new : List ℕ) (n : ℕ) → new ≡ text ++ drop n (take (length e - b) (drop b e)) → put_mid b (length e - b) e new ≡ (p ++ text) ++ drop (b + n) d
   grown_by text new n is-new = rw (is-new, is-e) (grown p d text b n (sym is_b))
 
--- ---- a text that was put at the start of zeros, in r bytes, is taken from there
-module _ (text zeros new : List ℕ) {r : ℕ} (is-r : r ≡ length text) (is-new : new ≡ text ++ drop r zeros) where
-  pub text_fits : r ≤ length new
-  text_fits = subst (λ (l : List ℕ). r ≤ length l) (sym is-new) (omega (arith, is-r, length-append text (drop r zeros)))
+-- ---- a text that was laid at the start of d: w is what was to be laid there, r how many bytes it has and l what stands there afterwards
+pub laid : {w : Answer (List ℕ)} (text d : List ℕ) → w ≡ gives text → {r : ℕ} {l : List ℕ} → r ≡ length text → l ≡ text ++ drop r d → Written w d (gives r) l
+laid text d is-w is-r is-l =
+    (ap gives is-r ∙ ap counted (sym is-w), is-l ∙ ap (λ (n : ℕ). text ++ drop n d) is-r ∙ ap (λ (a : Answer (List ℕ)). lent a d) (sym is-w))
 
-  text_back : take r new ≡ text
-  text_back = ap (take r) is-new ∙ take_at text (drop r zeros) r (sym is-r)
+pub none_laid : {w : Answer (List ℕ)} (d : List ℕ) {n : ℕ} → w ≡ refused n → Written w d (refused n) d
+none_laid d is-w = (ap counted (sym is-w), ap (λ (a : Answer (List ℕ)). lent a d) (sym is-w))
 
-  pub text_counted : r ≡ length (take r new)
-  text_counted = is-r ∙ ap length (sym text_back)
+pub not_laid : (w : Answer (List ℕ)) {n : ℕ} → refused n ≡ counted w → w ≡ refused n
+not_laid (gives text) h = absurd (not_both (sym h))
+not_laid (refused m) h = cc
 
-  -- and put into a lent buffer: a is what that answers, and l the buffer afterwards
-  pub text_put : (out : List ℕ) {other : List ℕ} {a : Answer ℕ} {l : List ℕ} → text ≡ other → Written (placed (take r new) (length out)) out a l → Written (placed other (length out)) out a l
-  text_put out e w =
-      let same = text_back ∙ e in
-      (w.0 ∙ ap (λ (t : List ℕ). counted (placed t (length out))) same, w.1 ∙ ap (λ (t : List ℕ). lent (placed t (length out)) out) same)
+-- it is taken from there, and put into a lent buffer: a is what that answers, and b the buffer afterwards
+module _ (w : Answer (List ℕ)) (d new : List ℕ) {r : ℕ} (was : Written w d (gives r) new) where
+  abbrev Text : Answer (List ℕ) → Type 0
+  Text w = (text : List ℕ) × ((w ≡ gives text) × ((r ≡ length text) × (new ≡ text ++ drop r d)))
+
+  the_text : Text w
+  the_text = go w was
+    where
+      go : (w : Answer (List ℕ)) → Written w d (gives r) new → Text w
+      go (gives text) h = (text, (refl, (same_value h.0, h.1 ∙ ap (λ (n : ℕ). text ++ drop n d) (sym (same_value h.0)))))
+      go (refused n) h = absurd (not_both h.0)
+
+  pub laid_fits : r ≤ length new
+  laid_fits =
+      let (text, (is-w, (is-r, is-new))) = the_text in
+      subst (λ (l : List ℕ). r ≤ length l) (sym is-new) (omega (arith, is-r, length-append text (drop r d)))
+
+  laid_back : take r new ≡ the_text.0
+  laid_back = let (text, (is-w, (is-r, is-new))) = the_text in ap (take r) is-new ∙ take_at text (drop r d) r (sym is-r)
+
+  pub laid_counted : r ≡ length (take r new)
+  laid_counted = the_text.1.1.0 ∙ ap length (sym laid_back)
+
+  pub laid_put : (out : List ℕ) {a : Answer ℕ} {b : List ℕ} → Written (placed (take r new) (length out)) out a b → Written (following w (λ text. placed text (length out))) out a b
+  laid_put out h =
+      let same = ap (λ (t : List ℕ). placed t (length out)) laid_back ∙ ap (λ (v : Answer (List ℕ)). following v (λ text. placed text (length out))) (sym the_text.1.0) in
+      (h.0 ∙ ap counted same, h.1 ∙ ap (λ (v : Answer (List ℕ)). lent v out) same)

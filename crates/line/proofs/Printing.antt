@@ -3,26 +3,24 @@
 use mathlib.Core.Path.{◌≡◌, refl, sym, ap, ◌∙◌, subst}
 use mathlib.Core.Bool.{Bool, true, not}
 use mathlib.Core.List.{List, [], ◌∷◌, ◌++◌, append_assoc}
-use mathlib.Core.Logic.{⊎_elim}
-use Prim.Native.Nat.{ℕ, ◌<◌, ◌≤◌}
+use Prim.Native.Nat.{ℕ, ◌≤◌}
 use native.Mathlib.Omega.{arith}
-use lib.Dec.{eqb, ltb}
+use lib.Dec.{eqb}
 use lib.IntN.{ℤ}
 use lib.ListN.{length, length-append}
 use borrow.Author.Tests.{ltb-true, ne_eqb}
 use Rattle.whole.proofs.Every.{every_joined, every_weaker}
 use Rattle.kinds.specs.Answer.{Answer, gives, refused, following}
-use Rattle.kinds.proofs.Answers.{not_both, same_value, all_held, first_or_behind, first_failed, first_number}
-use Rattle.tables.specs.Page.{Family, shift, geoid, is_shift}
+use Rattle.kinds.proofs.Answers.{not_both, same_value, all_held}
+use Rattle.tables.specs.Page.{Family, shift, geoid}
 use Rattle.datum.specs.Point.{converted_of}
-use Rattle.datum.specs.Point as point
 use Rattle.decimal.specs.Decimal.{printed_number}
 use Rattle.decimal.proofs.Numbers.{printed_short}
 use Rattle.decimal.proofs.Told.{above, number_above}
 use Rattle.waypoint.specs.Waypoint.{element, element_of}
-use Rattle.waypoint.proofs.Positions.{printable, of_position, as_refused}
+use Rattle.waypoint.proofs.Positions.{printable, of_position}
 use Rattle.waypoint.proofs.Writing.{element_short, element_every}
-use Rattle.line.specs.Line.{space, line_feed, unbroken, code, latitude_of, longitude_of, text_tests, tests, answer_to, answer_line, element_to, text_to}
+use Rattle.line.specs.Line.{space, line_feed, unbroken, code, latitude_of, longitude_of, text_tests, answer_to, answer_line, element_to, text_to}
 use Rattle.line.specs.declared.Form.{Form}
 use Rattle.line.specs.declared.Form.TheVariants.{Numbers, Waypoints}
 

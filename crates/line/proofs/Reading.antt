@@ -4,15 +4,12 @@ use mathlib.Core.Bool.{Bool, true, false, ◌&&◌, and-true}
 use mathlib.Core.List.{List, [], ◌∷◌}
 use Prim.Native.Nat.{ℕ, ◌-◌, ◌≤◌}
 use native.Mathlib.Omega.{arith}
-use lib.Dec.{eqb, leb}
+use lib.Dec.{eqb}
 use lib.IntN.{ℤ, pos}
 use lib.ListN.{length, get_or}
-use borrow.Author.Tests.{le-ltb, eq-eqb, ne_eqb, leb-true}
-use mir.Syntax.{w64}
-use mir.Val.{to_z}
+use borrow.Author.Tests.{le-ltb, eq-eqb, ne_eqb}
 use Rattle.whole.specs.Digits.{is_digit, digit_of}
 use Rattle.whole.proofs.Bools.{both}
-use Rattle.whole.proofs.Words.{Holds, from_unsigned}
 use Rattle.kinds.specs.Answer.{Answer, gives, refused, provided, ◌else◌, following, refusal_of}
 use Rattle.kinds.proofs.Answers.{not_both, same_value, passed, following_tests}
 use Rattle.kinds.proofs.Bytes.{length_part}
@@ -77,7 +74,7 @@ wrong_first true true true true ko h = absurd (let z : ◌≡◌ {A = ℕ} 0 1 =
 -- ---- by what the code tests
 module _ (t : List ℕ) where
   -- the code digit and the two spaces
-  abbrev between : Bool
+  abbrev pub between : Bool
   between = is_digit (code_byte t) && eqb (get_or t 1 0) space && eqb (get_or t 13 0) space
 
   pub wrong_length : (length t ≡ 26 → ⊥) → refused 1 ≡ point_said t
@@ -102,21 +99,15 @@ module _ (t : List ℕ) where
           let b = both (is_digit (code_byte t)) (eqb (get_or t 1 0) space) a.0 in
           (b.0, (b.1, a.1))
 
-      to_nine : get_or t 0 0 ≤ 57
-      to_nine = leb-true (get_or t 0 0) 57 (both (leb 48 (get_or t 0 0)) (leb (get_or t 0 0) 57) digit_and_spaces.0).1
-
-      code_held : Holds w64 (get_or t 0 0 - 48) (pos (get_or t 0 0 - 48))
-      code_held = from_unsigned (omega (arith, to_nine))
-
       together_is : together (code t) (value latitude (latitude_text t)) (value longitude (longitude_text t)) (right_kinds latitude (latitude_text t)) (right_ranges latitude (latitude_text t)) (right_kinds longitude (longitude_text t)) (right_ranges longitude (longitude_text t)) ≡ point_said t
       unfolding point_said
       together_is = simp (eq-eqb (length t) 26 long, digit_and_spaces.0, digit_and_spaces.1.0, digit_and_spaces.1.1, and-true)
 
-      -- east is what reading the longitude answers
-      pub latitude_read : {x : ℤ} {east : Answer ℤ} → read latitude (latitude_text t) ≡ gives x → east ≡ read longitude (longitude_text t) → with_longitude (to_z w64 (get_or t 0 0 - 48)) x east ≡ point_said t
+      -- c is the code as the code holds it, and east what reading the longitude answers
+      pub latitude_read : {c x : ℤ} {east : Answer ℤ} → c ≡ pos (get_or t 0 0 - 48) → read latitude (latitude_text t) ≡ gives x → east ≡ read longitude (longitude_text t) → with_longitude c x east ≡ point_said t
       unfolding digit_of
-      latitude_read {x} h e =
-          (λ i. with_longitude (code_held.reads i) x ((e ∙ longitude_is) i))
+      latitude_read {x = x} is_c h e =
+          (λ i. with_longitude (is_c i) x ((e ∙ longitude_is) i))
           ∙ read_together (code t) (value latitude (latitude_text t)) (value longitude (longitude_text t)) (right_kinds latitude (latitude_text t)) (right_ranges latitude (latitude_text t)) (right_kinds longitude (longitude_text t)) (right_ranges longitude (longitude_text t)) (sym latitude_is ∙ h)
           ∙ together_is
 

@@ -4,13 +4,13 @@ use mathlib.Core.List.{List, [], ◌∷◌, ◌++◌, append_assoc}
 use Prim.Native.Nat.{ℕ, ◌+◌, ◌-◌, ◌≤◌}
 use native.Mathlib.Omega.{arith}
 use lib.IntN.{ℤ}
-use lib.ListN.{length, take, drop, set, replicate, length-append}
+use lib.ListN.{length, take, drop, set, length-append}
 use borrow.Rule.Slice.PartMut.{put_mid}
+use Rattle.kinds.specs.Kinds.{Printable}
 use Rattle.kinds.proofs.Writing.{byte_after, rest_long, grown_by}
 use Rattle.tables.specs.Page.{shift, geoid}
 use Rattle.decimal.specs.Decimal.{printed_number}
 use Rattle.waypoint.specs.Waypoint.{element}
-use Rattle.waypoint.specs.Inside.{Printable}
 use Rattle.waypoint.proofs.Writing.{element_short}
 use Rattle.line.specs.Line.{space, line_feed, answer_line}
 use Rattle.decimal.proofs.Numbers.{printed_short}
@@ -83,8 +83,8 @@ module _ (latitude longitude : ℤ) where
   pub waypoint_long : {r : ℕ} → r ≡ length (element latitude longitude) → r + 1 ≡ length (waypoint latitude longitude)
   waypoint_long is-r = omega (arith, is-r, length-append (element latitude longitude) (line_feed ∷ []))
 
-  -- text is 48 zeros with the element at their start
-  pub waypoint_ended : Printable latitude longitude → {r : ℕ} {text : List ℕ} → r ≡ length (element latitude longitude) → text ≡ element latitude longitude ++ drop r (replicate 48 0)
-      → set text r line_feed ≡ waypoint latitude longitude ++ drop (r + 1) (replicate 48 0)
-  waypoint_ended small {r} is-r is-text =
-      ap (λ (l : List ℕ). set l r line_feed) is-text ∙ byte_after (element latitude longitude) (replicate 48 0) line_feed r (sym is-r) (omega (arith, is-r, element_short latitude longitude small))
+  -- l is the line d with the element at its start
+  pub waypoint_ended : Printable latitude longitude → (d : List ℕ) → 48 ≤ length d → {r : ℕ} {l : List ℕ} → r ≡ length (element latitude longitude) → l ≡ element latitude longitude ++ drop r d
+      → set l r line_feed ≡ waypoint latitude longitude ++ drop (r + 1) d
+  waypoint_ended small d room {r} is-r is-l =
+      ap (λ (l : List ℕ). set l r line_feed) is-l ∙ byte_after (element latitude longitude) d line_feed r (sym is-r) (omega (arith, is-r, room, element_short latitude longitude small))

@@ -1,6 +1,6 @@
 -- What the private functions of this crate promise one another.
 use Rattle.std.specs.Prelude.{cond, List, [], ◌∷◌, ◌++◌, ℕ, ltb, ℤ, Result}
-use Rattle.kinds.specs.Answer.{Answer, gives, refused, in_order, placed, following}
+use Rattle.kinds.specs.Answer.{Answer, gives, refused, in_order, following}
 use Rattle.kinds.specs.Cases.{answered}
 use Rattle.kinds.specs.declared.Refusal.{Refusal}
 use Rattle.datum.specs.Point.{answer_of}
@@ -32,13 +32,7 @@ first_refusal latitude (gives east) = latitude
 first_refusal latitude (refused n) = cond (ltb n latitude) n latitude
 
 -- ---- answering
--- a place that was read, for a lent buffer with room for so many bytes
-unfoldable pub answered_of : Said → ℕ → Answer (List ℕ)
-answered_of said room = following (answer_of said.code said.latitude said.longitude) (λ values. placed (answer_line values) room)
-
-unfoldable pub waypoint_put : Said → ℕ → Answer (List ℕ)
-waypoint_put said room = following (element_of said.code said.latitude said.longitude) (λ element. placed (element ++ line_feed ∷ []) room)
-
-abbrev pub answered_in : Form → Said → ℕ → Answer (List ℕ)
-answered_in Numbers said room = answered_of said room
-answered_in Waypoints said room = waypoint_put said room
+-- the text for a place that was read, in a form
+unfoldable pub text_of : Form → Said → Answer (List ℕ)
+text_of Numbers said = following (answer_of said.code said.latitude said.longitude) (λ values. gives (answer_line values))
+text_of Waypoints said = following (element_of said.code said.latitude said.longitude) (λ element. gives (element ++ line_feed ∷ []))

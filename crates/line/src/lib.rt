@@ -1,19 +1,18 @@
 // One line in, one line out: a point as text, and its shift or geoid height as it is printed, or its waypoint.
 #![tactic(auto)]
 
-ghost use Rattle.std.specs.Prelude.{◌≡◌, [], ◌∷◌, ◌++◌, ◌+◌, ◌≤◌, length, drop};
-ghost use Rattle.kinds.specs.Answer.{number_of, placed, counted, lent};
+ghost use Rattle.std.specs.Prelude.{◌≡◌, ◌++◌, ◌≤◌, length, drop};
+ghost use Rattle.kinds.specs.Answer.{number_of, counted, lent};
 ghost use Rattle.kinds.specs.Cases.{written};
 ghost use Rattle.position.specs.Text.{longitude, read};
-ghost use Rattle.datum.specs.Cases.{shift_says, geoid_says};
-ghost use Rattle.waypoint.specs.Waypoint.{element};
-ghost use Rattle.waypoint.specs.Inside.{Printable};
-ghost use Rattle.line.specs.Line.{line_feed, answer_line, line_of, line_in};
-ghost use Rattle.line.specs.Inside.{place_says, place_answer, point_said, first_refusal, answered_of, waypoint_put, answered_in};
+ghost use Rattle.datum.specs.Cases.{shift_says};
+ghost use Rattle.line.specs.Line.{answer_line, line_of, line_in};
+ghost use Rattle.line.specs.Inside.{place_says, place_answer, point_said, first_refusal, text_of};
+ghost use Rattle.line.specs.declared.Form.TheVariants.{Numbers, Waypoints};
 
 use datum::{Given, Point, Shifts};
 use decimal::number_and;
-use kinds::{Height, LocalLatitude, LocalLongitude, Refusal, Wgs84Position, put};
+use kinds::{LocalLatitude, LocalLongitude, Refusal, put};
 use waypoint::ELEMENT;
 
 // Answers the line whose bytes before the line feed are text: `1 350000.000N 0330000.000E` gives `-384288 -110294 24430` and a
@@ -40,7 +39,9 @@ pub fn line_in(form: Form, text: &[u8], out: &mut [u8]) -> Result<usize, Refusal
     ensures out_after { out.new ≡ lent (line_in form text.now (length out.old)) out.old }
 {
     let place = read(text)?;
-    answered(form, place, out)
+    let mut line = [0; WAYPOINT];
+    let end = laid(form, place, &mut line)?;
+    put(&line[..end], out)
 }
 
 // bytes of a line in, before its line feed
@@ -84,14 +85,15 @@ fn read(text: &[u8]) -> Result<Place, Refusal>
         return Err(Refusal::Length);
     }
     let code = text[0];
-    if !((b'0' <= code) & (code <= b'9') & (text[1] == b' ') & (text[13] == b' ')) {
+    let is_digit = code.is_ascii_digit();
+    if !(is_digit & (text[1] == b' ') & (text[13] == b' ')) {
         return Err(Refusal::Kind);
     }
     match position::read_latitude(&text[2..13]) {
         Ok(latitude) => {
             let longitude = position::read_longitude(&text[14..26])?;
             Ok(Place {
-                code: (code - b'0') as i64,
+                code: i64::from(code - b'0'),
                 latitude,
                 longitude,
             })
@@ -110,77 +112,47 @@ fn first_refusal(latitude: Refusal, text: &[u8]) -> Refusal
     if latitude == Refusal::Kind {
         return latitude;
     }
-    if let Err(why) = position::read_longitude(text) {
-        if why.number() < latitude.number() {
-            return why;
-        }
+    match position::read_longitude(text) {
+        Ok(_) => latitude,
+        Err(why) => latitude.min(why),
     }
-    latitude
 }
 
-// Answers the point of a line that was read.
-fn answered(form: Form, place: Place, out: &mut [u8]) -> Result<usize, Refusal>
-    ensures result_value { written result ≡ counted (answered_in form (place_says place) (length out.old)) }
-    ensures out_after { out.new ≡ lent (answered_in form (place_says place) (length out.old)) out.old }
+// The answer to a place that was read, at the start of a line, which has room for either form; and how many bytes it has.
+fn laid(form: Form, place: Place, line: &mut [u8; WAYPOINT]) -> Result<usize, Refusal>
+    ensures result_value { written result ≡ counted (text_of form (place_says place)) }
+    ensures line_after { line.new ≡ lent (text_of form (place_says place)) line.old }
 {
+    // a form is data, which is chosen when the program runs and which `Reading` of `stream` carries
     match form {
-        Form::Numbers => in_numbers(place, out),
-        Form::Waypoints => converted(place, out),
+        Form::Numbers => numbers_line(place, line),
+        Form::Waypoints => waypoint_line(place, line),
     }
 }
 
-fn converted(place: Place, out: &mut [u8]) -> Result<usize, Refusal>
-    ensures result_value { written result ≡ counted (waypoint_put (place_says place) (length out.old)) }
-    ensures out_after { out.new ≡ lent (waypoint_put (place_says place) (length out.old)) out.old }
+fn waypoint_line(place: Place, line: &mut [u8; WAYPOINT]) -> Result<usize, Refusal>
+    ensures result_value { written result ≡ counted (text_of Waypoints (place_says place)) }
+    ensures line_after { line.new ≡ lent (text_of Waypoints (place_says place)) line.old }
 {
     let point = place.point();
     let position = point.wgs84()?;
-    put_waypoint(position, out)
+    let end = waypoint::element(position, line);
+    line[end] = b'\n';
+    Ok(end + 1)
 }
 
-fn put_waypoint(position: Wgs84Position, out: &mut [u8]) -> Result<usize, Refusal>
-    requires { Printable position.latitude.0 position.longitude.0 }
-    ensures result_value { written result ≡ counted (placed (element position.latitude.0 position.longitude.0 ++ line_feed ∷ []) (length out.old)) }
-    ensures out_after { out.new ≡ lent (placed (element position.latitude.0 position.longitude.0 ++ line_feed ∷ []) (length out.old)) out.old }
-{
-    let mut text = [0; WAYPOINT];
-    let end = waypoint::element(position, &mut text);
-    text[end] = b'\n';
-    let count = end + 1;
-    put(&text[..count], out)
-}
-
-fn in_numbers(place: Place, out: &mut [u8]) -> Result<usize, Refusal>
-    ensures result_value { written result ≡ counted (answered_of (place_says place) (length out.old)) }
-    ensures out_after { out.new ≡ lent (answered_of (place_says place) (length out.old)) out.old }
+fn numbers_line(place: Place, line: &mut [u8; WAYPOINT]) -> Result<usize, Refusal>
+    ensures result_value { written result ≡ counted (text_of Numbers (place_says place)) }
+    ensures line_after { line.new ≡ lent (text_of Numbers (place_says place)) line.old }
 {
     let point = place.point();
     let given = point.answer()?;
     match given {
-        Given::Shift(shifts) => put_shift(shifts, out),
-        Given::Geoid(height) => put_geoid(height, out),
+        Given::Shift(shifts) => Ok(shift_line(shifts, line)),
+        Given::Geoid(height) => Ok(number_and(height.mm(), b'\n', line)),
     }
 }
 
-fn put_shift(shifts: Shifts, out: &mut [u8]) -> Result<usize, Refusal>
-    ensures result_value { written result ≡ counted (placed (answer_line (shift_says shifts)) (length out.old)) }
-    ensures out_after { out.new ≡ lent (placed (answer_line (shift_says shifts)) (length out.old)) out.old }
-{
-    let mut line = [0; ANSWER];
-    let end = shift_line(shifts, &mut line);
-    put(&line[..end], out)
-}
-
-fn put_geoid(height: Height, out: &mut [u8]) -> Result<usize, Refusal>
-    ensures result_value { written result ≡ counted (placed (answer_line (geoid_says height)) (length out.old)) }
-    ensures out_after { out.new ≡ lent (placed (answer_line (geoid_says height)) (length out.old)) out.old }
-{
-    let mut line = [0; ANSWER];
-    let end = number_and(height.mm(), b'\n', &mut line);
-    put(&line[..end], out)
-}
-
-// The line of a shift, at the start of what is lent.
 fn shift_line(shifts: Shifts, line: &mut [u8]) -> usize
     requires { 36 ≤ length line.old }
     ensures value { result ≡ length (answer_line (shift_says shifts)) }

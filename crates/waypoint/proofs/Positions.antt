@@ -1,6 +1,6 @@
 -- Converted positions: that they can be printed, and what is put for a point. Assumes nothing.
 use mathlib.Core.Path.{◌≡◌, refl, sym, ap, ◌∙◌}
-use mathlib.Core.Bool.{true, false≢true}
+use mathlib.Core.Bool.{true}
 use mathlib.Core.List.{List}
 use mathlib.Core.Logic.{◌↔◌, ◌⊎◌, inl, inr}
 use Prim.Native.Nat.{ℕ, suc, ◌≤◌, ◌<◌}
@@ -12,30 +12,18 @@ use lib.Signed.{le_z}
 use borrow.Author.Tests.{leb-true, leb-false, le-leb, lt-leb}
 use Rattle.whole.proofs.Bools.{both}
 use Rattle.kinds.specs.Answer.{Answer, gives, refused, placed, following, counted, lent}
-use Rattle.kinds.specs.Kinds.{within, is_wgs84_latitude, is_wgs84_longitude}
+use Rattle.kinds.specs.Kinds.{within, Printable}
 use Rattle.kinds.proofs.Answers.{not_both, same_value, passed, failed}
 use Rattle.kinds.proofs.Writing.{Written}
 use Rattle.datum.specs.Point.{shift_of, converted_of}
 use Rattle.datum.proofs.Converted.{settled}
 use Rattle.datum.proofs.Converted as converted
 use Rattle.waypoint.specs.Waypoint.{element, element_of, waypoint_of}
-use Rattle.waypoint.specs.Inside.{Printable}
 
 -- ---- it is so small that it can be printed
 within_size : (a b m : ℕ) (x : ℤ) → suc a ≤ m → b ≤ m → within (negsuc a) (pos b) x ≡ true → nat_abs x ≤ m
 within_size a b m (pos n) h k t = omega (arith, leb-true n b (both (le_z (negsuc a) (pos n)) (le_z (pos n) (pos b)) t).1)
 within_size a b m (negsuc n) h k t = omega (arith, leb-true n a (both (le_z (negsuc a) (negsuc n)) (le_z (negsuc n) (pos b)) t).0)
-
--- wherever it is on the globe
-pub globe_printable : (north east : ℤ) → is_wgs84_latitude north ≡ true → is_wgs84_longitude east ≡ true → Printable north east
-globe_printable north east h k = (
-  omega (arith, within_size 32399999999 32400000000 32400000000 north (omega arith) (omega arith) h),
-  omega (arith, longitude_size east k),
-)
-  where
-    longitude_size : (x : ℤ) → is_wgs84_longitude x ≡ true → nat_abs x ≤ 129599999999
-    longitude_size (pos n) t = leb-true n 129599999999 (both (le_z (pos 0) (pos n)) (le_z (pos n) (pos 129599999999)) t).1
-    longitude_size (negsuc n) t = absurd (false≢true t)
 
 pub printable : (code latitude longitude : ℤ) {p : ℤ × ℤ} → converted_of code latitude longitude ≡ gives p → Printable p.0 p.1
 printable code latitude longitude {p} e =
@@ -102,20 +90,17 @@ module _ (code latitude longitude : ℤ) where
     unwrites n (inl s) = ap by ((converted.as_refused code latitude longitude n).1 s)
     unwrites n (inr (north, (east, (e, (short, seven))))) = ap by e ∙ simp (lt-leb (length (element north east)) room short) (ap refused (sym seven))
 
--- ---- what is put for a point
--- of its position, where it has one, in whatever follows the element: a is what is answered, and l the buffer afterwards
-module _ (code latitude longitude : ℤ) (after : List ℕ → List ℕ) (out : List ℕ) where
-  abbrev of_element : Answer (List ℕ) → Answer (List ℕ)
-  of_element answer = following answer (λ bytes. placed (after bytes) (length out))
-
+-- ---- what is put for a point: a is what is answered, and l the buffer afterwards
+module _ (code latitude longitude : ℤ) (out : List ℕ) where
+  -- of its position, where it has one
   pub position_put : {p : ℤ × ℤ} → gives p ≡ converted_of code latitude longitude → {a : Answer ℕ} {l : List ℕ}
-      → Written (placed (after (element p.0 p.1)) (length out)) out a l → Written (of_element (element_of code latitude longitude)) out a l
+      → Written (placed (element p.0 p.1) (length out)) out a l → Written (waypoint_of code latitude longitude (length out)) out a l
   position_put e w =
-      let same = ap (λ (c : Answer (ℤ × ℤ)). of_element (following c (λ position. gives (element position.0 position.1)))) e in
+      let same = ap (by code latitude longitude (length out)) e in
       (w.0 ∙ ap counted same, w.1 ∙ ap (λ (a : Answer (List ℕ)). lent a out) same)
 
   -- and nothing, where it has none
-  pub none_put : {n : ℕ} → refused n ≡ converted_of code latitude longitude → Written (of_element (element_of code latitude longitude)) out (refused n) out
+  pub none_put : {n : ℕ} → refused n ≡ converted_of code latitude longitude → Written (waypoint_of code latitude longitude (length out)) out (refused n) out
   none_put e =
-      let same = ap (λ (c : Answer (ℤ × ℤ)). of_element (following c (λ position. gives (element position.0 position.1)))) e in
+      let same = ap (by code latitude longitude (length out)) e in
       (ap counted same, ap (λ (a : Answer (List ℕ)). lent a out) same)

@@ -1,3 +1,2 @@
 pub mod Waypoint
 pub mod Office
-pub mod Inside

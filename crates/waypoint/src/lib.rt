@@ -6,11 +6,10 @@ ghost use Rattle.kinds.specs.Answer.{placed, counted, lent};
 ghost use Rattle.kinds.specs.Cases.{written};
 ghost use Rattle.decimal.specs.Decimal.{nine_places};
 ghost use Rattle.waypoint.specs.Waypoint.{degrees, east_or_west, element, waypoint_of};
-ghost use Rattle.waypoint.specs.Inside.{Printable};
 
 use datum::Point;
-use decimal::nine_places;
-use kinds::{Refusal, Wgs84Latitude, Wgs84Longitude, Wgs84Position, put};
+use decimal::{Degrees, nine_places};
+use kinds::{Refusal, Wgs84Position, put};
 
 // the most bytes of an element
 pub const ELEMENT: usize = 47;
@@ -31,7 +30,6 @@ pub fn waypoint(point: Point, out: &mut [u8]) -> Result<usize, Refusal>
 }
 
 fn put_element(position: Wgs84Position, out: &mut [u8]) -> Result<usize, Refusal>
-    requires { Printable position.latitude.0 position.longitude.0 }
     ensures result_value { written result ≡ counted (placed (element position.latitude.0 position.longitude.0) (length out.old)) }
     ensures out_after { out.new ≡ lent (placed (element position.latitude.0 position.longitude.0) (length out.old)) out.old }
 {
@@ -42,44 +40,49 @@ fn put_element(position: Wgs84Position, out: &mut [u8]) -> Result<usize, Refusal
 
 // The element of a position, at the start of what is lent.
 pub fn element(position: Wgs84Position, line: &mut [u8]) -> usize
-    requires { Printable position.latitude.0 position.longitude.0 × (47 ≤ length line.old) }
+    requires { 47 ≤ length line.old }
     ensures value { result ≡ length (element position.latitude.0 position.longitude.0) }
     ensures line_after { line.new ≡ element position.latitude.0 position.longitude.0 ++ drop result line.old }
 {
-    let middle = labelled(b"<wpt lat=\"", north(position.latitude), line);
-    let end = middle + labelled(b"\" lon=\"", east(position.longitude), &mut line[middle..]);
+    let middle = labelled(b"<wpt lat=\"", north(position), line);
+    let end = middle + labelled(b"\" lon=\"", east(position), &mut line[middle..]);
     end + kinds::copy(b"\"/>", &mut line[end..])
 }
 
 // A label and the decimal degrees that it stands before. A call of it would take a waypoint 51 instructions.
 #[inline(always)]
-fn labelled(label: &[u8], billionths: i64, line: &mut [u8]) -> usize
-    requires { (nat_abs billionths < 1000000000000) × (length label.now + 14 ≤ length line.old) }
-    ensures value { result ≡ length (label.now ++ nine_places billionths) }
-    ensures line_after { line.new ≡ (label.now ++ nine_places billionths) ++ drop result line.old }
+fn labelled(label: &[u8], number: Degrees, line: &mut [u8]) -> usize
+    requires { length label.now + 14 ≤ length line.old }
+    ensures value { result ≡ length (label.now ++ nine_places number.billionths) }
+    ensures line_after { line.new ≡ (label.now ++ nine_places number.billionths) ++ drop result line.old }
 {
     let start = kinds::copy(label, line);
-    start + nine_places(billionths, &mut line[start..])
+    start + nine_places(number, &mut line[start..])
 }
 
-// A latitude in billionths of a degree.
-fn north(latitude: Wgs84Latitude) -> i64
-    requires { nat_abs latitude.0 < 360000000000 }
-    ensures { result ≡ degrees latitude.0 }
+// The latitude of a position.
+fn north(position: Wgs84Position) -> Degrees
+    ensures { result.billionths ≡ degrees position.latitude.0 }
 {
-    in_billionths(latitude.units())
+    let latitude = position.latitude;
+    Degrees {
+        billionths: in_billionths(latitude.units()),
+    }
 }
 
-// A longitude likewise, from -180° up to but not 180°.
-fn east(longitude: Wgs84Longitude) -> i64
-    requires { nat_abs longitude.0 < 360000000000 }
-    ensures { result ≡ east_or_west (degrees longitude.0) }
+// Its longitude, from -180° up to but not 180°.
+fn east(position: Wgs84Position) -> Degrees
+    ensures { result.billionths ≡ east_or_west (degrees position.longitude.0) }
 {
+    let longitude = position.longitude;
     let rounded = in_billionths(longitude.units());
     if HALF_TURN <= rounded {
-        rounded - 2 * HALF_TURN
-    } else {
-        rounded
+        return Degrees {
+            billionths: rounded - 2 * HALF_TURN,
+        };
+    }
+    Degrees {
+        billionths: rounded,
     }
 }
 

@@ -1,23 +1,27 @@
-use Rattle.std.proofs.Common.{ℕ, List, length, sym, ap, ◌∙◌}
-use Rattle.kinds.specs.Answer.{Answer, counted, lent}
+use Rattle.std.proofs.Common.{sym, ◌∙◌}
+use lib.ListN.{replicate}
 use Rattle.kinds.proofs.Answers.{handed_on}
-use Rattle.line.proofs.Calls.{read_on, not_read}
+use Rattle.kinds.proofs.Writing.{not_laid, laid_put}
+use Rattle.line.specs.Inside.{place_says, text_of}
+use Rattle.line.proofs.Calls.{read_on, not_read, line_put, none_put}
 use Rattle.line.proofs.line_in.Goals as goal
 
 pub returns : goal.returns
 returns c =
-    let out = c.args.out.now in
-    let e = read_on c.args.form c.args.text.now (length out) (sym c.in_ok-place.ensures) in
-    record {
-      result_value = c.answered.ensures.result_value ∙ ap counted e;
-      out_after = c.answered.ensures.out_after ∙ ap (λ (a : Answer (List ℕ)). lent a out) e;
-    }
+    let laid = c.in_ok-end.ensures in
+    let put = c.put.ensures in
+    let w =
+    line_put c.args.form c.args.text.now c.args.out.now (sym c.in_ok-place.ensures)
+    (laid_put (text_of c.args.form (place_says c.in_ok-place.place)) (replicate 48 0) _ (laid.result_value, laid.line_after) c.args.out.now (put.result_value, put.out_after)) in
+    record { result_value = w.0; out_after = w.1 }
 
 pub returns-in_err-place : goal.returns-in_err-place
 returns-in_err-place c =
-    let out = c.args.out.now in
-    let e = not_read c.args.form c.args.text.now (length out) (sym c.in_err-place.ensures) in
-    record {
-      result_value = handed_on (λ n. n) c.from_residual.result _ c.from_residual.ensures.1 ∙ ap counted e;
-      out_after = ap (λ (a : Answer (List ℕ)). lent a out) e;
-    }
+    let w = none_put c.args.form c.args.text.now c.args.out.now (not_read c.args.text.now c.args.form (sym c.in_err-place.ensures)) in
+    record { result_value = handed_on (λ n. n) c.from_residual.result _ c.from_residual.ensures.1 ∙ w.0; out_after = w.1 }
+
+pub returns-in_err-end : goal.returns-in_err-end
+returns-in_err-end c =
+    let refused = not_laid (text_of c.args.form (place_says c.in_ok-place.place)) c.in_err-end.ensures.result_value in
+    let w = none_put c.args.form c.args.text.now c.args.out.now (sym (read_on c.args.text.now c.args.form (sym c.in_ok-place.ensures)) ∙ refused) in
+    record { result_value = handed_on (λ n. n) c.from_residual-in_err-end.result _ c.from_residual-in_err-end.ensures.1 ∙ w.0; out_after = w.1 }
