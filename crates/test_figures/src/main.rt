@@ -45,9 +45,9 @@ fn refusals<W: Write>(answers: &mut W) -> io::Result<()> {
 fn put<R: Read, W: Write>(questions: &mut R, answers: &mut W) -> io::Result<()> {
     let mut text = [0; 20];
     let text = test_ask::text(questions, &mut text)?;
-    test_show::into(questions, answers, &mut [b'#'; 14], |room| {
-        kinds::put(text, room)
-    })
+    let mut out = [b'#'; 14];
+    let count = kinds::put(text, test_ask::room(questions, &mut out)?);
+    test_show::lent(answers, count, &out)
 }
 
 fn answer<R: Read, W: Write>(questions: &mut R, answers: &mut W, letter: u8) -> io::Result<()> {

@@ -6,7 +6,8 @@ use std::io;
 use std::io::Write;
 
 fn shifted<W: Write>(answers: &mut W, shift: ShiftFloats) -> io::Result<()> {
-    test_show::floats(answers, shift.latitude, shift.longitude, shift.height)
+    let three = [shift.latitude, shift.longitude, shift.height];
+    test_show::each(answers, &three, test_show::float)
 }
 
 pub(crate) fn either<W: Write>(
@@ -29,13 +30,13 @@ pub(crate) fn each<W: Write>(
     latitude: i64,
     longitude: i64,
 ) -> io::Result<()> {
-    test_show::float(answers, floating::first(code, latitude, longitude))?;
-    test_show::float(answers, floating::second(code, latitude, longitude))?;
-    test_show::float(answers, floating::third(code, latitude, longitude))?;
-    test_show::number(
-        answers,
-        i64::from(floating::refusal(code, latitude, longitude)),
-    )
+    let three = [
+        floating::first(code, latitude, longitude),
+        floating::second(code, latitude, longitude),
+        floating::third(code, latitude, longitude),
+    ];
+    test_show::each(answers, &three, test_show::float)?;
+    test_show::number(answers, floating::refusal(code, latitude, longitude))
 }
 
 // The floats of one whole number of 4 bytes as each of the three shifts.

@@ -5,44 +5,31 @@
 mod floats;
 
 use datum::{Given, Shifts};
+use kinds::Height;
 use std::io;
 use std::io::{Read, Write};
 
 fn shifted<W: Write>(answers: &mut W, shifts: Shifts) -> io::Result<()> {
-    test_show::three(
-        answers,
-        shifts.latitude.units(),
-        shifts.longitude.units(),
-        shifts.height.mm(),
-    )
+    let angles = [shifts.latitude.units(), shifts.longitude.units()];
+    test_show::each(answers, &angles, test_show::number)?;
+    raised(answers, shifts.height)
 }
 
-fn either<W: Write>(answers: &mut W, code: i64, latitude: i64, longitude: i64) -> io::Result<()> {
-    match datum::answer(code, latitude, longitude) {
-        Ok(Given::Shift(shifts)) => shifted(answers, shifts),
-        Ok(Given::Geoid(height)) => test_show::four_bytes(answers, height.mm()),
-        Err(why) => test_show::refused(answers, why),
-    }
+fn raised<W: Write>(answers: &mut W, height: Height) -> io::Result<()> {
+    test_show::number(answers, height.mm())
 }
 
-fn shift<W: Write>(answers: &mut W, code: i64, latitude: i64, longitude: i64) -> io::Result<()> {
-    match datum::shift(code, latitude, longitude) {
-        Ok(shifts) => shifted(answers, shifts),
-        Err(why) => test_show::refused(answers, why),
-    }
-}
-
-fn geoid<W: Write>(answers: &mut W, code: i64, latitude: i64, longitude: i64) -> io::Result<()> {
-    match datum::geoid(code, latitude, longitude) {
-        Ok(height) => test_show::four_bytes(answers, height.mm()),
-        Err(why) => test_show::refused(answers, why),
+fn either<W: Write>(answers: &mut W, given: Given) -> io::Result<()> {
+    match given {
+        Given::Shift(shifts) => shifted(answers, shifts),
+        Given::Geoid(height) => raised(answers, height),
     }
 }
 
 fn point<W: Write>(answers: &mut W, code: i64, latitude: i64, longitude: i64) -> io::Result<()> {
-    either(answers, code, latitude, longitude)?;
-    shift(answers, code, latitude, longitude)?;
-    geoid(answers, code, latitude, longitude)?;
+    test_show::answer(answers, datum::answer(code, latitude, longitude), either)?;
+    test_show::answer(answers, datum::shift(code, latitude, longitude), shifted)?;
+    test_show::answer(answers, datum::geoid(code, latitude, longitude), raised)?;
     floats::either(answers, code, latitude, longitude)?;
     floats::each(answers, code, latitude, longitude)
 }

@@ -4,7 +4,7 @@
 use kinds::Refusal;
 use std::fmt::Display;
 use std::io;
-use std::io::{Read, Write};
+use std::io::Write;
 
 pub fn number<W: Write, N: Display + Drop>(answers: &mut W, n: N) -> io::Result<()> {
     write!(answers, " {n}")
@@ -85,16 +85,12 @@ pub fn written<W: Write>(answers: &mut W, count: Result<usize, Refusal>) -> io::
     answer(answers, count, |answers, n| write!(answers, " wrote {n}"))
 }
 
-// What a call answers that writes into the start of a lent buffer, as much of it as is asked; and all of the buffer, as text.
-pub fn into<R: Read, W: Write, F: FnOnce(&mut [u8]) -> Result<usize, Refusal>>(
-    questions: &mut R,
+// What a call answers that writes into the start of a lent buffer; and all of the buffer, as text.
+pub fn lent<W: Write>(
     answers: &mut W,
-    out: &mut [u8],
-    call: F,
-) -> io::Result<()>
-    requires { F.IsAlwaysCallable call }
-{
-    let count = call(test_ask::room(questions, out)?);
+    count: Result<usize, Refusal>,
+    out: &[u8],
+) -> io::Result<()> {
     written(answers, count)?;
     text(answers, out)
 }
