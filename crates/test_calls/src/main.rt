@@ -3,20 +3,29 @@
 #![tactic(auto)]
 
 use buckettin::{Read, Written};
+use std::fmt::Display;
 use std::io;
 use std::io::Write;
 
+// The refusal of an answer, and the numbers beside it. C has a struct for each call, so each names its fields.
+fn said<W: Write, N: Display + Copy + Drop>(
+    answers: &mut W,
+    refusal: u32,
+    numbers: &[N],
+) -> io::Result<()> {
+    test_show::number(answers, refusal)?;
+    test_show::each(answers, numbers, test_show::number)
+}
+
 fn shift<W: Write>(answers: &mut W, code: i64, latitude: i64, longitude: i64) -> io::Result<()> {
     let shift = buckettin::buckettin_shift(code, latitude, longitude);
-    test_show::number(answers, shift.refusal)?;
     let shifts = [shift.dlat, shift.dlon, shift.dh];
-    test_show::each(answers, &shifts, test_show::number)
+    said(answers, shift.refusal, &shifts)
 }
 
 fn geoid<W: Write>(answers: &mut W, code: i64, latitude: i64, longitude: i64) -> io::Result<()> {
     let geoid = buckettin::buckettin_geoid(code, latitude, longitude);
-    test_show::number(answers, geoid.refusal)?;
-    test_show::number(answers, geoid.n)
+    said(answers, geoid.refusal, &[geoid.n])
 }
 
 fn floats<W: Write>(answers: &mut W, code: i64, latitude: i64, longitude: i64) -> io::Result<()> {
@@ -38,8 +47,7 @@ fn point<W: Write>(answers: &mut W, code: i64, latitude: i64, longitude: i64) ->
 }
 
 fn said_read<W: Write>(answers: &mut W, read: Read) -> io::Result<()> {
-    test_show::number(answers, read.refusal)?;
-    test_show::number(answers, read.ms)
+    said(answers, read.refusal, &[read.ms])
 }
 
 // A text as a latitude and as a longitude.
@@ -51,8 +59,7 @@ fn text<R: io::Read, W: Write>(questions: &mut R, answers: &mut W) -> io::Result
 }
 
 fn said_written<W: Write>(answers: &mut W, written: Written) -> io::Result<()> {
-    test_show::number(answers, written.refusal)?;
-    test_show::number(answers, written.written)
+    said(answers, written.refusal, &[written.written])
 }
 
 // The same, and all of the buffer that was lent.

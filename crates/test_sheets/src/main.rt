@@ -38,7 +38,7 @@ fn first<W: Write>(answers: &mut W, res: &[u8]) -> io::Result<()> {
 // Sheets into one buffer, until another letter comes; and the buffer after the last.
 fn all<R: Read, W: Write>(questions: &mut R, answers: &mut W) -> io::Result<()> {
     let mut out = [b'#'; 47];
-    // counted as in `each` of test_ask, and not by it, since the buffer goes on from sheet to sheet
+    // counted for the reason of `each` of test_ask, and not by it, since any letter but + ends these
     for _ in 0..u64::MAX {
         let Some(b'+') = test_ask::letter(questions)? else {
             break;

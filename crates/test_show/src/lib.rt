@@ -61,7 +61,7 @@ pub fn refused<W: Write>(answers: &mut W, why: Refusal) -> io::Result<()> {
     refusal(answers, why.number())
 }
 
-// By its number, which is all that the floating answer has, a form that the firm's paper names.
+// By its number, which is all that the floating answer has: document 01 names this form.
 pub fn refusal<W: Write>(answers: &mut W, n: u8) -> io::Result<()> {
     write!(answers, " refused {n}")
 }
