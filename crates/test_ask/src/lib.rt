@@ -1,6 +1,6 @@
 // How the test programs read what they are asked: a letter, and after it numbers, texts and counts, as tests/program.py writes them.
-// Past the end of the input there is no letter, a number is 0, and a text has no bytes. A buffer is an array that the caller lends,
-// since no program of the project allocates, so that none can run out of memory.
+// Past the end of the input there is no letter, a number is 0, and a text has no bytes.
+// Texts and answers stand in arrays that are lent: none of the test programs allocates, so that none can run out of memory.
 #![tactic(auto)]
 
 use std::io;

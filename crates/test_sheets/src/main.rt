@@ -18,21 +18,18 @@ fn one<R: Read, W: Write>(questions: &mut R, answers: &mut W) -> io::Result<()> 
 }
 
 // The next sheet, for unit 7: the digit of its refusal, or of its first point's, or 0.
-fn tried<R: Read, W: Write>(questions: &mut R, answers: &mut W, out: &mut [u8]) -> io::Result<()> {
+fn tried<R: Read, W: Write>(
+    questions: &mut R,
+    answers: &mut W,
+    out: &mut [u8; 47],
+) -> io::Result<()> {
     let mut sheet = [0; 38];
     let sheet = test_ask::text(questions, &mut sheet)?;
     match sheet::work(7, sheet, out) {
-        Ok(_) => first(answers, out),
+        // the first byte after the serial and the count of points
+        Ok(_) => test_show::digit(answers, out[6]),
         Err(why) => test_show::digit(answers, why.number()),
     }
-}
-
-// The first byte after the serial and the count of points.
-fn first<W: Write>(answers: &mut W, res: &[u8]) -> io::Result<()> {
-    if 6 < res.len() {
-        test_show::digit(answers, res[6])?;
-    }
-    Ok(())
 }
 
 // Sheets into one buffer, until another letter comes; and the buffer after the last.
