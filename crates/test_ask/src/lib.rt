@@ -1,17 +1,19 @@
 // How the test programs read what they are asked: a letter, and after it numbers, texts and counts, as tests/program.py writes them.
-// Past the end of the input a letter is 0, and so is a number; a text has no bytes.
+// Past the end of the input there is no letter, a number is 0, and a text has no bytes.
+// Texts and answers stand in arrays that are lent: none of the test programs allocates, so that none can run out of memory.
 #![tactic(auto)]
-
-ghost use Rattle.std.specs.Io.{ReadsAtMost};
 
 use std::io;
 use std::io::{Read, Write};
 
-// The letter of a question.
-pub fn letter<R: Read>(questions: &mut R) -> io::Result<u8> {
+// The letter of a question, if one comes. No letter is 0, which stays where no byte came.
+pub fn letter<R: Read>(questions: &mut R) -> io::Result<Option<u8>> {
     let mut read = [0; 1];
     fill(questions, &mut read)?;
-    Ok(read[0])
+    match read {
+        [0] => Ok(None),
+        [letter] => Ok(Some(letter)),
+    }
 }
 
 // A number, in the eight bytes of its two's complement.
@@ -42,23 +44,20 @@ pub fn fill<R: Read>(questions: &mut R, read: &mut [u8]) -> io::Result<()> {
     Ok(())
 }
 
-// How many bytes of a buffer to use: all where more are asked.
-pub fn room<R: Read>(questions: &mut R, out: &[u8]) -> io::Result<usize>
-    ensures { ReadsAtMost result out.now }
-{
-    Ok(count(questions)?.min(out.len()))
+// The start of a buffer, as much of it as is asked: all where more is.
+pub fn room<'a, R: Read>(questions: &mut R, out: &'a mut [u8]) -> io::Result<&'a mut [u8]> {
+    let n = count(questions)?.min(out.len());
+    Ok(&mut out[..n])
 }
 
-// A text, after its count: as much of it as a buffer holds is put at its start. How much that is.
-pub fn text<R: Read>(questions: &mut R, out: &mut [u8]) -> io::Result<usize>
-    ensures { ReadsAtMost result out.new }
-{
-    let n = room(questions, out)?;
-    fill(questions, &mut out[..n])?;
-    Ok(n)
+// A text, after its count: as much of it as a buffer holds, put at its start.
+pub fn text<'a, R: Read>(questions: &mut R, out: &'a mut [u8]) -> io::Result<&'a [u8]> {
+    let text = room(questions, out)?;
+    fill(questions, text)?;
+    Ok(text)
 }
 
-// Answers each question by its letter, until none comes. The count of turns is there to end: no input has so many.
+// Answers each question by its letter, until none comes. A program matches the letter, since it says at run time what is asked.
 pub fn each<R: Read, W: Write, F: Fn(&mut R, &mut W, u8) -> io::Result<()>>(
     questions: &mut R,
     answers: &mut W,
@@ -66,12 +65,12 @@ pub fn each<R: Read, W: Write, F: Fn(&mut R, &mut W, u8) -> io::Result<()>>(
 ) -> io::Result<()>
     requires { F.IsAlwaysCallable answer }
 {
+    // no `while let`: no measure falls, as no reader says how much it has left; no input has so many turns
     for _ in 0..u64::MAX {
-        let asked = letter(questions)?;
-        answer(questions, answers, asked)?;
-        if asked == 0 {
+        let Some(asked) = letter(questions)? else {
             break;
-        }
+        };
+        answer(questions, answers, asked)?;
     }
     Ok(())
 }
@@ -79,6 +78,5 @@ pub fn each<R: Read, W: Write, F: Fn(&mut R, &mut W, u8) -> io::Result<()>>(
 // A text that is printed as it stands: what a case is called.
 pub fn label<R: Read, W: Write>(questions: &mut R, answers: &mut W) -> io::Result<()> {
     let mut words = [0; 64];
-    let n = text(questions, &mut words)?;
-    answers.write_all(&words[..n])
+    answers.write_all(text(questions, &mut words)?)
 }

@@ -21,33 +21,33 @@ fn quotient<W: Write>(answers: &mut W, n: i64, d: u64) -> io::Result<()> {
 fn powers<W: Write>(answers: &mut W, u: i64) -> io::Result<()> {
     if u.unsigned_abs() <= 255_000_000 {
         let p = equation::size_powers(whole::Parts(u));
-        for power in &p[2..10] {
-            test_show::number(answers, *power)?;
-        }
+        test_show::each(answers, &p[2..10], test_show::number)?;
     }
     Ok(())
 }
 
 fn refusals<W: Write>(answers: &mut W) -> io::Result<()> {
-    test_show::refused(answers, Refusal::Length)?;
-    test_show::refused(answers, Refusal::Kind)?;
-    test_show::refused(answers, Refusal::Range)?;
-    test_show::refused(answers, Refusal::Code)?;
-    test_show::refused(answers, Refusal::Family)?;
-    test_show::refused(answers, Refusal::Area)?;
-    test_show::refused(answers, Refusal::Room)?;
-    test_show::refused(answers, Refusal::Foreign)?;
-    test_show::refused(answers, Refusal::Sheet)
+    let all = [
+        Refusal::Length,
+        Refusal::Kind,
+        Refusal::Range,
+        Refusal::Code,
+        Refusal::Family,
+        Refusal::Area,
+        Refusal::Room,
+        Refusal::Foreign,
+        Refusal::Sheet,
+    ];
+    test_show::each(answers, &all, test_show::refused)
 }
 
-// A text, put at the start of a buffer, all of which is shown.
-fn put<R: Read, W: Write>(questions: &mut R, answers: &mut W, out: &mut [u8]) -> io::Result<()> {
+// A text, put at the start of a buffer.
+fn put<R: Read, W: Write>(questions: &mut R, answers: &mut W) -> io::Result<()> {
     let mut text = [0; 20];
-    let n = test_ask::text(questions, &mut text)?;
-    let room = test_ask::room(questions, out)?;
-    let answer = kinds::put(&text[..n], &mut out[..room]);
-    test_show::written(answers, answer)?;
-    test_show::text(answers, out)
+    let text = test_ask::text(questions, &mut text)?;
+    let mut out = [b'#'; 14];
+    let count = kinds::put(text, test_ask::room(questions, &mut out)?);
+    test_show::lent(answers, count, &out)
 }
 
 fn answer<R: Read, W: Write>(questions: &mut R, answers: &mut W, letter: u8) -> io::Result<()> {
@@ -75,7 +75,7 @@ fn answer<R: Read, W: Write>(questions: &mut R, answers: &mut W, letter: u8) -> 
             test_ask::number(questions)?,
             test_ask::number(questions)?,
         ),
-        b't' => put(questions, answers, &mut [b'#'; 14]),
+        b't' => put(questions, answers),
         _ => Ok(()),
     }
 }

@@ -26,6 +26,5 @@ pub(crate) fn held<W: Write>(answers: &mut W, latitude: i64, longitude: i64) -> 
     let Ok(position) = LocalPosition::new(latitude, longitude) else {
         return Ok(());
     };
-    let frame = FRAME;
-    test_show::number(answers, i64::from(frame.holds(position)))
+    test_show::number(answers, u8::from(FRAME.holds(position)))
 }

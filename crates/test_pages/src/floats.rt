@@ -6,7 +6,8 @@ use std::io;
 use std::io::Write;
 
 fn shifted<W: Write>(answers: &mut W, shift: ShiftFloats) -> io::Result<()> {
-    test_show::floats(answers, shift.latitude, shift.longitude, shift.height)
+    let three = [shift.latitude, shift.longitude, shift.height];
+    test_show::each(answers, &three, test_show::float)
 }
 
 pub(crate) fn either<W: Write>(answers: &mut W, point: Point) -> io::Result<()> {
@@ -19,10 +20,13 @@ pub(crate) fn either<W: Write>(answers: &mut W, point: Point) -> io::Result<()> 
 
 // The four calls for a point.
 pub(crate) fn each<W: Write>(answers: &mut W, point: Point) -> io::Result<()> {
-    test_show::float(answers, floating::first(point))?;
-    test_show::float(answers, floating::second(point))?;
-    test_show::float(answers, floating::third(point))?;
-    test_show::number(answers, i64::from(floating::refusal(point)))
+    let three = [
+        floating::first(point),
+        floating::second(point),
+        floating::third(point),
+    ];
+    test_show::each(answers, &three, test_show::float)?;
+    test_show::number(answers, floating::refusal(point))
 }
 
 // The floats of one whole number of 4 bytes as each of the three shifts.

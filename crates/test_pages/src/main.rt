@@ -5,44 +5,31 @@
 mod floats;
 
 use datum::{Given, Point, Shifts};
+use kinds::Height;
 use std::io;
 use std::io::{Read, Write};
 
 fn shifted<W: Write>(answers: &mut W, shifts: Shifts) -> io::Result<()> {
-    test_show::three(
-        answers,
-        shifts.latitude.units(),
-        shifts.longitude.units(),
-        shifts.height.mm(),
-    )
+    let angles = [shifts.latitude.units(), shifts.longitude.units()];
+    test_show::each(answers, &angles, test_show::number)?;
+    raised(answers, shifts.height)
 }
 
-fn either<W: Write>(answers: &mut W, point: Point) -> io::Result<()> {
-    match point.answer() {
-        Ok(Given::Shift(shifts)) => shifted(answers, shifts),
-        Ok(Given::Geoid(height)) => test_show::four_bytes(answers, height.mm()),
-        Err(why) => test_show::refused(answers, why),
-    }
+fn raised<W: Write>(answers: &mut W, height: Height) -> io::Result<()> {
+    test_show::number(answers, height.mm())
 }
 
-fn shift<W: Write>(answers: &mut W, point: Point) -> io::Result<()> {
-    match point.shift() {
-        Ok(shifts) => shifted(answers, shifts),
-        Err(why) => test_show::refused(answers, why),
-    }
-}
-
-fn geoid<W: Write>(answers: &mut W, point: Point) -> io::Result<()> {
-    match point.geoid() {
-        Ok(height) => test_show::four_bytes(answers, height.mm()),
-        Err(why) => test_show::refused(answers, why),
+fn either<W: Write>(answers: &mut W, given: Given) -> io::Result<()> {
+    match given {
+        Given::Shift(shifts) => shifted(answers, shifts),
+        Given::Geoid(height) => raised(answers, height),
     }
 }
 
 fn point<W: Write>(answers: &mut W, point: Point) -> io::Result<()> {
-    either(answers, point)?;
-    shift(answers, point)?;
-    geoid(answers, point)?;
+    test_show::answer(answers, point.answer(), either)?;
+    test_show::answer(answers, point.shift(), shifted)?;
+    test_show::answer(answers, point.geoid(), raised)?;
     floats::either(answers, point)?;
     floats::each(answers, point)
 }

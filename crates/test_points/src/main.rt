@@ -5,20 +5,19 @@
 use std::io;
 use std::io::{Read, Write};
 
-// A line, answered into the start of a buffer, all of which is shown.
-fn into<R: Read, W: Write>(questions: &mut R, answers: &mut W, out: &mut [u8]) -> io::Result<()> {
+// A line, answered into a buffer.
+fn line<R: Read, W: Write>(questions: &mut R, answers: &mut W) -> io::Result<()> {
     let mut text = [0; 40];
-    let n = test_ask::text(questions, &mut text)?;
-    let room = test_ask::room(questions, out)?;
-    let answer = line::line(&text[..n], &mut out[..room]);
-    test_show::written(answers, answer)?;
-    test_show::text(answers, out)
+    let text = test_ask::text(questions, &mut text)?;
+    let mut out = [b'#'; 40];
+    let count = line::line(text, test_ask::room(questions, &mut out)?);
+    test_show::lent(answers, count, &out)
 }
 
 fn answer<R: Read, W: Write>(questions: &mut R, answers: &mut W, letter: u8) -> io::Result<()> {
     match letter {
         b'=' => test_ask::label(questions, answers),
-        b'l' => into(questions, answers, &mut [b'#'; 40]),
+        b'l' => line(questions, answers),
         _ => Ok(()),
     }
 }

@@ -5,74 +5,43 @@
 use std::io;
 use std::io::{Read, Write};
 
-// A sheet, worked into the start of a buffer, all of which is shown.
-fn into<R: Read, W: Write>(
-    questions: &mut R,
-    answers: &mut W,
-    unit: i64,
-    sheet: &[u8],
-    out: &mut [u8],
-) -> io::Result<()> {
-    let room = test_ask::room(questions, out)?;
-    let answer = sheet::work(unit, sheet, &mut out[..room]);
-    test_show::written(answers, answer)?;
-    test_show::bytes(answers, out)
-}
-
-// A sheet for a unit, with the size of the buffer: two bytes more than 500 points take, at most.
+// A sheet for a unit, worked into a buffer of the size that is asked: two bytes more than 500 points take, at most.
 fn one<R: Read, W: Write>(questions: &mut R, answers: &mut W) -> io::Result<()> {
     let unit = test_ask::number(questions)?;
     let mut sheet = [0; 4522];
-    let n = test_ask::text(questions, &mut sheet)?;
+    let sheet = test_ask::text(questions, &mut sheet)?;
     let mut out = [b'#'; 6508];
-    let size = test_ask::room(questions, &out)?;
-    into(questions, answers, unit, &sheet[..n], &mut out[..size])
+    let out = test_ask::room(questions, &mut out)?;
+    let count = sheet::work(unit, sheet, test_ask::room(questions, out)?);
+    test_show::written(answers, count)?;
+    test_show::bytes(answers, out)
 }
 
-// The next sheet, for unit 7: the digit of its refusal, or of its first point's, or 0. Whether there is one.
+// The next sheet, for unit 7: the digit of its refusal, or of its first point's, or 0.
 fn tried<R: Read, W: Write>(
     questions: &mut R,
     answers: &mut W,
-    out: &mut [u8],
-) -> io::Result<bool> {
-    if test_ask::letter(questions)? != b'+' {
-        return Ok(false);
-    }
-    let mut sheet = [0; 38];
-    let n = test_ask::text(questions, &mut sheet)?;
-    match sheet::work(7, &sheet[..n], out) {
-        Ok(_) => first(answers, out)?,
-        Err(why) => test_show::digit(answers, why.number())?,
-    }
-    Ok(true)
-}
-
-// The first byte after the serial and the count of points.
-fn first<W: Write>(answers: &mut W, res: &[u8]) -> io::Result<()> {
-    if 6 < res.len() {
-        test_show::digit(answers, res[6])?;
-    }
-    Ok(())
-}
-
-// Sheets into one buffer.
-fn several<R: Read, W: Write>(
-    questions: &mut R,
-    answers: &mut W,
-    out: &mut [u8],
+    out: &mut [u8; 47],
 ) -> io::Result<()> {
-    for _ in 0..u64::MAX {
-        if !tried(questions, answers, out)? {
-            break;
-        }
+    let mut sheet = [0; 38];
+    let sheet = test_ask::text(questions, &mut sheet)?;
+    match sheet::work(7, sheet, out) {
+        // the first byte after the serial and the count of points
+        Ok(_) => test_show::digit(answers, out[6]),
+        Err(why) => test_show::digit(answers, why.number()),
     }
-    Ok(())
 }
 
-// Sheets into one buffer, which is shown after the last.
+// Sheets into one buffer, until another letter comes; and the buffer after the last.
 fn all<R: Read, W: Write>(questions: &mut R, answers: &mut W) -> io::Result<()> {
     let mut out = [b'#'; 47];
-    several(questions, answers, &mut out)?;
+    // counted for the reason of `each` of test_ask, and not by it, since any letter but + ends these
+    for _ in 0..u64::MAX {
+        let Some(b'+') = test_ask::letter(questions)? else {
+            break;
+        };
+        tried(questions, answers, &mut out)?;
+    }
     test_show::bytes(answers, &out)
 }
 

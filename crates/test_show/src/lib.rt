@@ -2,36 +2,12 @@
 #![tactic(auto)]
 
 use kinds::Refusal;
+use std::fmt::Display;
 use std::io;
 use std::io::Write;
 
-pub fn number<W: Write>(answers: &mut W, n: i64) -> io::Result<()> {
-    answers.write_all(b" ")?;
-    digits(answers, n)
-}
-
-fn digits<W: Write>(answers: &mut W, n: i64) -> io::Result<()> {
-    if n < 0 {
-        answers.write_all(b"-")?;
-    }
-    write!(answers, "{}", n.unsigned_abs())
-}
-
-pub fn four_bytes<W: Write>(answers: &mut W, n: i32) -> io::Result<()> {
-    number(answers, i64::from(n))
-}
-
-pub fn three<W: Write>(answers: &mut W, a: i32, b: i32, c: i32) -> io::Result<()> {
-    four_bytes(answers, a)?;
-    four_bytes(answers, b)?;
-    four_bytes(answers, c)
-}
-
-// With no space.
-pub fn bracketed<W: Write>(answers: &mut W, n: i32) -> io::Result<()> {
-    answers.write_all(b"(")?;
-    digits(answers, i64::from(n))?;
-    answers.write_all(b")")
+pub fn number<W: Write, N: Display + Drop>(answers: &mut W, n: N) -> io::Result<()> {
+    write!(answers, " {n}")
 }
 
 // The bits in hexadecimal. A NaN has no bits that could be asked for.
@@ -43,10 +19,18 @@ pub fn float<W: Write>(answers: &mut W, x: f64) -> io::Result<()> {
     }
 }
 
-pub fn floats<W: Write>(answers: &mut W, a: f64, b: f64, c: f64) -> io::Result<()> {
-    float(answers, a)?;
-    float(answers, b)?;
-    float(answers, c)
+// Each of several, by a function for one.
+pub fn each<W: Write, T: Copy, F: Fn(&mut W, T) -> io::Result<()>>(
+    answers: &mut W,
+    several: &[T],
+    show: F,
+) -> io::Result<()>
+    requires { F.IsAlwaysCallable show }
+{
+    for one in several {
+        show(answers, *one)?;
+    }
+    Ok(())
 }
 
 // As they stand.
@@ -77,23 +61,36 @@ pub fn refused<W: Write>(answers: &mut W, why: Refusal) -> io::Result<()> {
     refusal(answers, why.number())
 }
 
-// By its number, which is all that the floating answer has.
+// By its number, which is all that the floating answer has: document 01 names this form.
 pub fn refusal<W: Write>(answers: &mut W, n: u8) -> io::Result<()> {
-    answers.write_all(b" refused")?;
-    number(answers, i64::from(n))
+    write!(answers, " refused {n}")
 }
 
-// A number, or why there is none.
-pub fn answer<W: Write>(answers: &mut W, answer: Result<i64, Refusal>) -> io::Result<()> {
+// What a call answers, by a function for what it gives; or why it gives none.
+pub fn answer<W: Write, T, F: FnOnce(&mut W, T) -> io::Result<()>>(
+    answers: &mut W,
+    answer: Result<T, Refusal>,
+    show: F,
+) -> io::Result<()>
+    requires { F.IsAlwaysCallable show }
+{
     match answer {
-        Ok(n) => number(answers, n),
+        Ok(given) => show(answers, given),
         Err(why) => refused(answers, why),
     }
 }
 
-pub fn written<W: Write>(answers: &mut W, answer: Result<usize, Refusal>) -> io::Result<()> {
-    match answer {
-        Ok(n) => write!(answers, " wrote {n}"),
-        Err(why) => refused(answers, why),
-    }
+// How many bytes were written.
+pub fn written<W: Write>(answers: &mut W, count: Result<usize, Refusal>) -> io::Result<()> {
+    answer(answers, count, |answers, n| write!(answers, " wrote {n}"))
+}
+
+// What a call answers that writes into the start of a lent buffer; and all of the buffer, as text.
+pub fn lent<W: Write>(
+    answers: &mut W,
+    count: Result<usize, Refusal>,
+    out: &[u8],
+) -> io::Result<()> {
+    written(answers, count)?;
+    text(answers, out)
 }

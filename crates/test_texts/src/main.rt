@@ -9,36 +9,32 @@ use std::io::{Read, Write};
 // A number is printed in brackets, a refusal as its digit alone.
 fn said<W: Write>(answers: &mut W, read: Result<i32, Refusal>) -> io::Result<()> {
     match read {
-        Ok(ms) => test_show::bracketed(answers, ms),
+        Ok(ms) => write!(answers, "({ms})"),
         Err(why) => test_show::digit(answers, why.number()),
     }
 }
 
-fn latitude<W: Write>(answers: &mut W, text: &[u8]) -> io::Result<()> {
-    said(answers, position::read_latitude(text).map(|x| x.ms()))
-}
-
-fn longitude<W: Write>(answers: &mut W, text: &[u8]) -> io::Result<()> {
-    said(answers, position::read_longitude(text).map(|x| x.ms()))
+// A text read as a latitude, and one as a longitude.
+fn both<W: Write>(answers: &mut W, latitude: &[u8], longitude: &[u8]) -> io::Result<()> {
+    said(answers, position::read_latitude(latitude).map(|x| x.ms()))?;
+    said(answers, position::read_longitude(longitude).map(|x| x.ms()))
 }
 
 // A text, read as each.
 fn read<R: Read, W: Write>(questions: &mut R, answers: &mut W) -> io::Result<()> {
     let mut text = [0; 20];
-    let n = test_ask::text(questions, &mut text)?;
-    latitude(answers, &text[..n])?;
-    longitude(answers, &text[..n])
+    let text = test_ask::text(questions, &mut text)?;
+    both(answers, text, text)
 }
 
 // Twelve bytes: the last eleven, read as a latitude, and all, read as a longitude.
 fn read_twelve<R: Read, W: Write>(questions: &mut R, answers: &mut W) -> io::Result<()> {
     let mut text = [0; 12];
     test_ask::fill(questions, &mut text)?;
-    latitude(answers, &text[1..])?;
-    longitude(answers, &text)
+    both(answers, &text[1..], &text)
 }
 
-// A number, written by `write` into the start of a buffer, all of which is shown.
+// A number, written by `write` into a buffer.
 fn written<R: Read, W: Write, F: Fn(i64, &mut [u8]) -> Result<usize, Refusal>>(
     questions: &mut R,
     answers: &mut W,
@@ -46,12 +42,10 @@ fn written<R: Read, W: Write, F: Fn(i64, &mut [u8]) -> Result<usize, Refusal>>(
 ) -> io::Result<()>
     requires { F.IsAlwaysCallable write }
 {
-    let mut out = [b'#'; 14];
     let ms = test_ask::number(questions)?;
-    let room = test_ask::room(questions, &out)?;
-    let answer = write(ms, &mut out[..room]);
-    test_show::written(answers, answer)?;
-    test_show::text(answers, &out)
+    let mut out = [b'#'; 14];
+    let count = write(ms, test_ask::room(questions, &mut out)?);
+    test_show::lent(answers, count, &out)
 }
 
 fn answer<R: Read, W: Write>(questions: &mut R, answers: &mut W, letter: u8) -> io::Result<()> {

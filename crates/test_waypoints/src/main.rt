@@ -9,17 +9,17 @@ use std::io;
 use std::io::{Read, Write};
 use stream::Reading;
 
-// The waypoint of a point, in the start of a buffer, all of which is shown.
-fn into<R: Read, W: Write>(questions: &mut R, answers: &mut W, out: &mut [u8]) -> io::Result<()> {
+// The waypoint of a point, in a buffer.
+fn point<R: Read, W: Write>(questions: &mut R, answers: &mut W) -> io::Result<()> {
     let point = Point {
         code: test_ask::number(questions)?,
         latitude: test_ask::number(questions)?,
         longitude: test_ask::number(questions)?,
     };
-    let room = test_ask::room(questions, out)?;
-    let answer = waypoint::waypoint(point, &mut out[..room]);
-    test_show::written(answers, answer)?;
-    test_show::text(answers, out)
+    let mut out = [b'#'; 50];
+    let room = test_ask::room(questions, &mut out)?;
+    let count = waypoint::waypoint(point, room);
+    test_show::lent(answers, count, &out)
 }
 
 // The element of a position in 0.00001", at the start of a buffer that has room for any.
@@ -37,57 +37,46 @@ fn put(latitude: i64, longitude: i64, out: &mut [u8; 50]) -> Result<usize, Refus
 fn element<W: Write>(answers: &mut W, latitude: i64, longitude: i64) -> io::Result<()> {
     let mut out = [b'#'; 50];
     match put(latitude, longitude, &mut out) {
-        Ok(count) => {
-            test_show::written(answers, Ok(count))?;
-            test_show::text(answers, &out)
-        }
+        Ok(count) => test_show::lent(answers, Ok(count), &out),
         Err(why) => test_show::refused(answers, why),
     }
 }
 
 // A line, answered with its waypoint, likewise.
-fn line_into<R: Read, W: Write>(
-    questions: &mut R,
-    answers: &mut W,
-    out: &mut [u8],
-) -> io::Result<()> {
+fn line<R: Read, W: Write>(questions: &mut R, answers: &mut W) -> io::Result<()> {
     let mut text = [0; 40];
-    let n = test_ask::text(questions, &mut text)?;
-    let room = test_ask::room(questions, out)?;
-    let answer = line::line_in(Form::Waypoints, &text[..n], &mut out[..room]);
-    test_show::written(answers, answer)?;
-    test_show::text(answers, out)
+    let text = test_ask::text(questions, &mut text)?;
+    let mut out = [b'#'; 50];
+    let room = test_ask::room(questions, &mut out)?;
+    let count = line::line_in(Form::Waypoints, text, room);
+    test_show::lent(answers, count, &out)
 }
 
 // An input in one piece, into the start of a buffer: how much of it is taken, how much is put, and all of the buffer; and then what
 // the end of the input gives, with all of the buffer lent.
-fn input<R: Read, W: Write>(questions: &mut R, answers: &mut W, out: &mut [u8]) -> io::Result<()> {
+fn input<R: Read, W: Write>(questions: &mut R, answers: &mut W) -> io::Result<()> {
     let mut text = [0; 60];
-    let n = test_ask::text(questions, &mut text)?;
-    let room = test_ask::room(questions, out)?;
-    let fed = stream::feed(
-        Reading::start(Form::Waypoints),
-        &text[..n],
-        &mut out[..room],
-    );
+    let text = test_ask::text(questions, &mut text)?;
+    let mut out = [b'#'; 150];
+    let room = test_ask::room(questions, &mut out)?;
+    let fed = stream::feed(Reading::start(Form::Waypoints), text, room);
     write!(answers, " took {} put {}", fed.taken, fed.put)?;
-    test_show::text(answers, out)?;
-    let last = stream::finish(fed.reading, out);
-    let put = last.put;
-    test_show::text(answers, &out[..put])
+    test_show::text(answers, &out)?;
+    let last = stream::finish(fed.reading, &mut out);
+    test_show::text(answers, &out[..last.put])
 }
 
 fn answer<R: Read, W: Write>(questions: &mut R, answers: &mut W, letter: u8) -> io::Result<()> {
     match letter {
         b'=' => test_ask::label(questions, answers),
-        b'w' => into(questions, answers, &mut [b'#'; 50]),
+        b'w' => point(questions, answers),
         b'e' => element(
             answers,
             test_ask::number(questions)?,
             test_ask::number(questions)?,
         ),
-        b'l' => line_into(questions, answers, &mut [b'#'; 50]),
-        b'i' => input(questions, answers, &mut [b'#'; 150]),
+        b'l' => line(questions, answers),
+        b'i' => input(questions, answers),
         _ => Ok(()),
     }
 }
