@@ -176,16 +176,18 @@ number_back Sheet = refl
 pub same_refusal : (r s : Refusal) → number_of r ≡ number_of s → r ≡ s
 same_refusal r s h = sym (number_back r) ∙ ap refusal h ∙ number_back s
 
--- a result by what it says, where two values are the same of which `says` says the same
-pub determined_by : {T A : Type 0} (says : T → A) → ((x y : T) → says x ≡ says y → x ≡ y) → (a b : Result T Refusal) → answered says a ≡ answered says b → a ≡ b
-determined_by says same (Ok x) (Ok y) h = ap Ok (same x y (same_value h))
-determined_by says same (Ok x) (Err r) h = absurd (not_both h)
-determined_by says same (Err r) (Ok x) h = absurd (not_both (sym h))
-determined_by says same (Err r) (Err s) h = ap Err (same_refusal r s (same_number h))
+-- a result by what it says, where `made` makes the value of what `says` says of it
+module _ {T A : Type 0} (says : T → A) (made : A → T) (back : (x : T) → made (says x) ≡ x) where
+  abbrev rebuilt : Answer A → Result T Refusal
+  rebuilt (gives v) = Ok (made v)
+  rebuilt (refused n) = Err (refusal n)
 
--- and where `made` makes the value of what is said of it
-pub determined : {T A : Type 0} (says : T → A) (made : A → T) → ((x : T) → made (says x) ≡ x) → (a b : Result T Refusal) → answered says a ≡ answered says b → a ≡ b
-determined says made back = determined_by says (λ x y h. sym (back x) ∙ ap made h ∙ back y)
+  again : (r : Result T Refusal) → rebuilt (answered says r) ≡ r
+  again (Ok x) = ap Ok (back x)
+  again (Err r) = ap Err (number_back r)
+
+  pub determined : (a b : Result T Refusal) → answered says a ≡ answered says b → a ≡ b
+  determined a b h = sym (again a) ∙ ap rebuilt h ∙ again b
 
 -- the result at the exit of a `?` is refused as what was asked
 pub handed_on : {T A : Type 0} (says : T → A) (r : Result T Refusal) (e : Refusal) → IsErrAnd r (λ y. y ≡ e) → answered says r ≡ refused (number_of e)

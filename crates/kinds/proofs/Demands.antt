@@ -1,8 +1,6 @@
 -- What document 01 asks of refusals, of lent buffers and of the answers' cases, and document 02's worked conversion. Stated
 -- over specs/ alone. Assumes nothing.
 use mathlib.Core.Path.{◌≡◌, refl, sym, ap, ◌∙◌}
-use mathlib.Core.Bool.{true}
-use mathlib.Core.HLevel.{is_prop→PathP}
 use mathlib.Core.List.{List}
 use mathlib.Core.Logic.{◌↔◌, ◌⊎◌, inl, inr, ⊎_elim}
 use Prim.Native.Nat.{ℕ, ◌≤◌, ◌<◌}
@@ -12,25 +10,24 @@ use Rattle.std.specs.Prelude.{Result}
 use lib.IntN.{ℤ, pos, neg_ℤ, ◌*ℤ◌}
 use lib.ListN.{length, take, drop, length-append, length-drop}
 use lib.Seq.{take-append_seam, drop-append_seam}
-use denote.Struct.Props.{props}
 use borrow.Author.Tests.{leb-true, leb-false, le-leb, lt-leb}
 use Rattle.whole.specs.Round.{round_div}
 use Rattle.kinds.specs.Answer.{Answer, gives, refused, Test, in_order, AllHold, FirstFails, refusal_of, number_of, placed, lent}
 use Rattle.kinds.specs.Cases.{local_latitude, local_longitude, local_position, wgs84_latitude, wgs84_longitude, wgs84_position, angle_shift, height, written}
-use Rattle.kinds.specs.Kinds.{is_position, Printable, converted}
+use Rattle.kinds.specs.Kinds.{converted}
 use Rattle.kinds.specs.declared.Wgs84Latitude.{Wgs84Latitude}
 use Rattle.kinds.specs.declared.Wgs84Longitude.{Wgs84Longitude}
-use Rattle.kinds.specs.declared.positions.Wgs84Position.{Wgs84Position}
+use Rattle.kinds.specs.declared.Wgs84Position.{Wgs84Position}
 use Rattle.kinds.specs.declared.LocalLatitude.{LocalLatitude}
 use Rattle.kinds.specs.declared.LocalLongitude.{LocalLongitude}
-use Rattle.kinds.specs.declared.positions.LocalPosition.{LocalPosition}
+use Rattle.kinds.specs.declared.LocalPosition.{LocalPosition}
 use Rattle.kinds.specs.declared.AngleShift.{AngleShift}
 use Rattle.kinds.specs.declared.Height.{Height}
 use Rattle.kinds.specs.declared.Refusal.{Refusal}
 use Rattle.kinds.specs.contracts.RefusalOrd.TheImpl.{ghosts}
 use Rattle.std.specs.Ordering.{nat_cmp}
 use Rattle.kinds.specs.declared.Refusal.TheVariants.{Length, Kind, Range, Code, Family, Area, Room, Foreign, Sheet}
-use Rattle.kinds.proofs.Answers.{not_both, same_value, passed, failed, all_held, held, first_or_behind, first_failed, fails, same_refusal, determined, determined_by}
+use Rattle.kinds.proofs.Answers.{not_both, same_value, passed, failed, all_held, held, first_or_behind, first_failed, fails, same_refusal, determined}
 
 -- ---- 'Refusal numbers'
 -- no two refusals have one number
@@ -134,23 +131,6 @@ angle_shift_by_number a b h = ap (λ (x : ℤ). record { 0 = x }) h
 pub height_by_number : (a b : Height) → a.0 ≡ b.0 → a ≡ b
 height_by_number a b h = ap (λ (x : ℤ). record { 0 = x }) h
 
--- two positions of the same coordinates are the same: what their type says of these has one proof
-local_position_same : (p q : LocalPosition) → ◌≡◌ {A = ℤ × ℤ} (p.latitude.0, p.longitude.0) (q.latitude.0, q.longitude.0) → p ≡ q
-local_position_same p q h =
-    λ i. record {
-      latitude = record { 0 = (h i).0 };
-      longitude = record { 0 = (h i).1 };
-      ranged = is_prop→PathP (λ j. is_position (h j).0 (h j).1 ≡ true) (λ j. hlevel props) p.ranged q.ranged i;
-    }
-
-wgs84_position_same : (p q : Wgs84Position) → ◌≡◌ {A = ℤ × ℤ} (p.latitude.0, p.longitude.0) (q.latitude.0, q.longitude.0) → p ≡ q
-wgs84_position_same p q h =
-    λ i. record {
-      latitude = record { 0 = (h i).0 };
-      longitude = record { 0 = (h i).1 };
-      printable = is_prop→PathP (λ j. Printable (h j).0 (h j).1) (λ j. hlevel props) p.printable q.printable i;
-    }
-
 -- two results that say the same are the same
 pub local_latitude_determined : (a b : Result LocalLatitude Refusal) → local_latitude a ≡ local_latitude b → a ≡ b
 local_latitude_determined = determined (λ x. x.0) (λ n. record { 0 = n }) (λ _. refl)
@@ -159,7 +139,7 @@ pub local_longitude_determined : (a b : Result LocalLongitude Refusal) → local
 local_longitude_determined = determined (λ x. x.0) (λ n. record { 0 = n }) (λ _. refl)
 
 pub local_position_determined : (a b : Result LocalPosition Refusal) → local_position a ≡ local_position b → a ≡ b
-local_position_determined = determined_by (λ p. (p.latitude.0, p.longitude.0)) local_position_same
+local_position_determined = determined (λ p. (p.latitude.0, p.longitude.0)) (λ n. record { latitude = record { 0 = n.0 }; longitude = record { 0 = n.1 } }) (λ _. refl)
 
 pub wgs84_latitude_determined : (a b : Result Wgs84Latitude Refusal) → wgs84_latitude a ≡ wgs84_latitude b → a ≡ b
 wgs84_latitude_determined = determined (λ x. x.0) (λ n. record { 0 = n }) (λ _. refl)
@@ -168,7 +148,7 @@ pub wgs84_longitude_determined : (a b : Result Wgs84Longitude Refusal) → wgs84
 wgs84_longitude_determined = determined (λ x. x.0) (λ n. record { 0 = n }) (λ _. refl)
 
 pub wgs84_position_determined : (a b : Result Wgs84Position Refusal) → wgs84_position a ≡ wgs84_position b → a ≡ b
-wgs84_position_determined = determined_by (λ p. (p.latitude.0, p.longitude.0)) wgs84_position_same
+wgs84_position_determined = determined (λ p. (p.latitude.0, p.longitude.0)) (λ n. record { latitude = record { 0 = n.0 }; longitude = record { 0 = n.1 } }) (λ _. refl)
 
 pub angle_shift_determined : (a b : Result AngleShift Refusal) → angle_shift a ≡ angle_shift b → a ≡ b
 angle_shift_determined = determined (λ x. x.0) (λ n. record { 0 = n }) (λ _. refl)

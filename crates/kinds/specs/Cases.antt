@@ -4,10 +4,10 @@ use Rattle.kinds.specs.Answer.{Answer, gives, refused, number_of}
 use Rattle.kinds.specs.declared.Refusal.{Refusal}
 use Rattle.kinds.specs.declared.LocalLatitude.{LocalLatitude}
 use Rattle.kinds.specs.declared.LocalLongitude.{LocalLongitude}
-use Rattle.kinds.specs.declared.positions.LocalPosition.{LocalPosition}
+use Rattle.kinds.specs.declared.LocalPosition.{LocalPosition}
 use Rattle.kinds.specs.declared.Wgs84Latitude.{Wgs84Latitude}
 use Rattle.kinds.specs.declared.Wgs84Longitude.{Wgs84Longitude}
-use Rattle.kinds.specs.declared.positions.Wgs84Position.{Wgs84Position}
+use Rattle.kinds.specs.declared.Wgs84Position.{Wgs84Position}
 use Rattle.kinds.specs.declared.AngleShift.{AngleShift}
 use Rattle.kinds.specs.declared.Height.{Height}
 

@@ -1,5 +1,5 @@
 -- Document 01, 'Positions': the kinds of quantity, their units and limits, and the conversion of a local position.
-use Rattle.std.specs.Prelude.{Bool, ◌&&◌, ◌*◌, ◌-◌, ◌<◌, ℤ, pos, neg_ℤ, nat_abs, ◌+ℤ◌, ◌*ℤ◌}
+use Rattle.std.specs.Prelude.{Bool, ◌&&◌, ◌*◌, ◌-◌, ℤ, pos, neg_ℤ, ◌+ℤ◌, ◌*ℤ◌}
 use Rattle.std.specs.Int.Signed.{le_z}
 use Rattle.kinds.specs.Answer.{Answer, gives, provided}
 
@@ -25,10 +25,6 @@ is_wgs84_latitude x = within (neg_ℤ (pos (100 * 324000000))) (pos (100 * 32400
 
 abbrev pub is_wgs84_longitude : ℤ → Bool
 is_wgs84_longitude x = within (pos 0) (pos (100 * 1296000000 - 1)) x
-
--- such a position whose degrees are printed with two digits before the point, and with three: below 100° and 1,000°
-abbrev pub Printable : ℤ → ℤ → Type 0
-Printable latitude longitude = (nat_abs latitude < 36000000000) × (nat_abs longitude < 360000000000)
 
 -- a shift in 0.00001", a height in mm: signed 4-byte numbers
 abbrev pub is_four_bytes : ℤ → Bool

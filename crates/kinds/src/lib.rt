@@ -6,13 +6,9 @@
 #![tactic(auto)]
 
 ghost use Rattle.std.specs.Prelude.{◌≡◌, ◌≤◌, ◌++◌, drop, length};
-ghost use Rattle.kinds.specs.Answer.{number_of, placed, counted, lent};
-ghost use Rattle.kinds.specs.Cases.{local_latitude, local_longitude, wgs84_latitude, wgs84_longitude, angle_shift, height, said, written};
-ghost use Rattle.kinds.specs.Kinds.{within, is_latitude, is_longitude, is_wgs84_latitude, is_wgs84_longitude, is_four_bytes, tested, converted};
-
-mod positions;
-
-pub use positions::{LocalPosition, Wgs84Position};
+ghost use Rattle.kinds.specs.Answer.{gives, provided, number_of, placed, counted, lent};
+ghost use Rattle.kinds.specs.Cases.{local_latitude, local_longitude, local_position, wgs84_latitude, wgs84_longitude, angle_shift, height, said, written};
+ghost use Rattle.kinds.specs.Kinds.{within, is_latitude, is_longitude, is_position, is_wgs84_latitude, is_wgs84_longitude, is_four_bytes, tested, converted};
 
 // Why a call is refused, in the order of document 01's numbers.
 #[derive(Clone, Copy, Debug, PartialEq, Eq, PartialOrd, Ord, Hash)]
@@ -147,6 +143,40 @@ impl LocalLongitude {
     }
 }
 
+// A position on the local datum.
+#[derive(Clone, Copy)]
+pub struct LocalPosition {
+    pub latitude: LocalLatitude,
+    pub longitude: LocalLongitude,
+}
+
+impl LocalPosition {
+    // Refused with 3 where the one or the other is out of range.
+    pub fn new(latitude: i64, longitude: i64) -> Result<LocalPosition, Refusal>
+        ensures { local_position result ≡ provided (is_position latitude longitude) 3 (gives (latitude, longitude)) }
+    {
+        let north = LocalLatitude::new(latitude)?;
+        let east = LocalLongitude::new(longitude)?;
+        Ok(LocalPosition {
+            latitude: north,
+            longitude: east,
+        })
+    }
+
+    // Where the shifts of its latitude and of its longitude lead.
+    pub fn shifted(self, north: AngleShift, east: AngleShift) -> Wgs84Position
+        ensures latitude_value { result.latitude.0 ≡ converted self.latitude.0 north.0 }
+        ensures longitude_value { result.longitude.0 ≡ converted self.longitude.0 east.0 }
+    {
+        let latitude = self.latitude;
+        let longitude = self.longitude;
+        Wgs84Position {
+            latitude: latitude.shifted(north),
+            longitude: longitude.shifted(east),
+        }
+    }
+}
+
 // The shift of an angle from the local datum to WGS 84, in 0.00001".
 #[derive(Clone, Copy)]
 pub struct AngleShift(i32);
@@ -270,6 +300,13 @@ impl Wgs84Longitude {
         let Wgs84Longitude(units) = self;
         units
     }
+}
+
+// A position on WGS 84.
+#[derive(Clone, Copy)]
+pub struct Wgs84Position {
+    pub latitude: Wgs84Latitude,
+    pub longitude: Wgs84Longitude,
 }
 
 // Whether x is from the least to the largest, both in.

@@ -6,11 +6,11 @@ use native.Mathlib.Omega.{arith}
 use lib.IntN.{ℤ}
 use lib.ListN.{length, take, drop, set, length-append}
 use borrow.Rule.Slice.PartMut.{put_mid}
-use Rattle.kinds.specs.Kinds.{Printable}
 use Rattle.kinds.proofs.Writing.{byte_after, rest_long, grown_by}
 use Rattle.tables.specs.Page.{shift, geoid}
 use Rattle.decimal.specs.Decimal.{printed_number}
 use Rattle.waypoint.specs.Waypoint.{element}
+use Rattle.waypoint.specs.Inside.{Printable}
 use Rattle.waypoint.proofs.Writing.{element_short}
 use Rattle.line.specs.Line.{space, line_feed, answer_line}
 use Rattle.decimal.proofs.Numbers.{printed_short}

@@ -12,13 +12,14 @@ use lib.Signed.{le_z}
 use borrow.Author.Tests.{leb-true, leb-false, le-leb, lt-leb}
 use Rattle.whole.proofs.Bools.{both}
 use Rattle.kinds.specs.Answer.{Answer, gives, refused, placed, following, counted, lent}
-use Rattle.kinds.specs.Kinds.{within, Printable}
+use Rattle.kinds.specs.Kinds.{within}
 use Rattle.kinds.proofs.Answers.{not_both, same_value, passed, failed}
 use Rattle.kinds.proofs.Writing.{Written}
 use Rattle.datum.specs.Point.{shift_of, converted_of}
 use Rattle.datum.proofs.Converted.{settled}
 use Rattle.datum.proofs.Converted as converted
 use Rattle.waypoint.specs.Waypoint.{element, element_of, waypoint_of}
+use Rattle.waypoint.specs.Inside.{Printable}
 
 -- ---- it is so small that it can be printed
 within_size : (a b m : ℕ) (x : ℤ) → suc a ≤ m → b ≤ m → within (negsuc a) (pos b) x ≡ true → nat_abs x ≤ m

@@ -10,12 +10,12 @@ use borrow.Rule.Slice.PartMut.{put_mid}
 use Rattle.whole.specs.Every.{every}
 use Rattle.whole.proofs.Every.{every_joined, every_weaker}
 use Rattle.kinds.specs.Bytes.{ascii}
-use Rattle.kinds.specs.Kinds.{Printable}
 use Rattle.kinds.proofs.Writing.{rest_long, grown_by}
 use Rattle.decimal.specs.Decimal.{nine_places}
 use Rattle.decimal.proofs.Told.{above, nine_above}
 use Rattle.decimal.proofs.Nine.{nine_short, nine_shorter}
 use Rattle.waypoint.specs.Waypoint.{degrees, east_or_west, element}
+use Rattle.waypoint.specs.Inside.{Printable}
 use Rattle.waypoint.proofs.Degrees.{two_digits, few_wrapped}
 
 -- ---- the element: d is the line as it came, and of each part r says how many bytes were written and new what was lent for it

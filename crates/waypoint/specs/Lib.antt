@@ -1,2 +1,3 @@
 pub mod Waypoint
 pub mod Office
+pub mod Inside

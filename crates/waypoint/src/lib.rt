@@ -6,10 +6,11 @@ ghost use Rattle.kinds.specs.Answer.{placed, counted, lent};
 ghost use Rattle.kinds.specs.Cases.{written};
 ghost use Rattle.decimal.specs.Decimal.{nine_places};
 ghost use Rattle.waypoint.specs.Waypoint.{degrees, east_or_west, element, waypoint_of};
+ghost use Rattle.waypoint.specs.Inside.{Printable};
 
 use datum::Point;
 use decimal::{Degrees, nine_places};
-use kinds::{Refusal, Wgs84Position, put};
+use kinds::{Refusal, Wgs84Latitude, Wgs84Longitude, Wgs84Position, put};
 
 // the most bytes of an element
 pub const ELEMENT: usize = 47;
@@ -30,6 +31,7 @@ pub fn waypoint(point: Point, out: &mut [u8]) -> Result<usize, Refusal>
 }
 
 fn put_element(position: Wgs84Position, out: &mut [u8]) -> Result<usize, Refusal>
+    requires { Printable position.latitude.0 position.longitude.0 }
     ensures result_value { written result ≡ counted (placed (element position.latitude.0 position.longitude.0) (length out.old)) }
     ensures out_after { out.new ≡ lent (placed (element position.latitude.0 position.longitude.0) (length out.old)) out.old }
 {
@@ -40,12 +42,12 @@ fn put_element(position: Wgs84Position, out: &mut [u8]) -> Result<usize, Refusal
 
 // The element of a position, at the start of what is lent.
 pub fn element(position: Wgs84Position, line: &mut [u8]) -> usize
-    requires { 47 ≤ length line.old }
+    requires { Printable position.latitude.0 position.longitude.0 × (47 ≤ length line.old) }
     ensures value { result ≡ length (element position.latitude.0 position.longitude.0) }
     ensures line_after { line.new ≡ element position.latitude.0 position.longitude.0 ++ drop result line.old }
 {
-    let middle = labelled(b"<wpt lat=\"", north(position), line);
-    let end = middle + labelled(b"\" lon=\"", east(position), &mut line[middle..]);
+    let middle = labelled(b"<wpt lat=\"", north(position.latitude), line);
+    let end = middle + labelled(b"\" lon=\"", east(position.longitude), &mut line[middle..]);
     end + kinds::copy(b"\"/>", &mut line[end..])
 }
 
@@ -60,21 +62,21 @@ fn labelled(label: &[u8], number: Degrees, line: &mut [u8]) -> usize
     start + nine_places(number, &mut line[start..])
 }
 
-// The latitude of a position.
-fn north(position: Wgs84Position) -> Degrees
-    ensures { result.billionths ≡ degrees position.latitude.0 }
+// A latitude in decimal degrees.
+fn north(latitude: Wgs84Latitude) -> Degrees
+    requires { nat_abs latitude.0 < 360000000000 }
+    ensures { result.billionths ≡ degrees latitude.0 }
 {
-    let latitude = position.latitude;
     Degrees {
         billionths: in_billionths(latitude.units()),
     }
 }
 
-// Its longitude, from -180° up to but not 180°.
-fn east(position: Wgs84Position) -> Degrees
-    ensures { result.billionths ≡ east_or_west (degrees position.longitude.0) }
+// A longitude likewise, from -180° up to but not 180°.
+fn east(longitude: Wgs84Longitude) -> Degrees
+    requires { nat_abs longitude.0 < 360000000000 }
+    ensures { result.billionths ≡ east_or_west (degrees longitude.0) }
 {
-    let longitude = position.longitude;
     let rounded = in_billionths(longitude.units());
     if HALF_TURN <= rounded {
         return Degrees {

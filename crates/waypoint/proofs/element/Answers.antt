@@ -9,21 +9,21 @@ low x latitude e h = subst (λ (z : ℤ). nat_abs z < 100000000000) (sym e) (two
 
 pub labelled-requires : goal.labelled-requires
 labelled-requires c =
-    let below = low _ c.args.position.latitude.0 c.north.ensures c.args.position.printable.0 in
+    let below = low _ c.args.position.latitude.0 c.north.ensures c.requires.0.0 in
     let p = c.labelled-middle.ensures in
-    second_room _ below c.args.line.now c.requires _ p.value p.line_after
+    second_room _ below c.args.line.now c.requires.1 _ p.value p.line_after
 
 pub copy-requires : goal.copy-requires
 copy-requires c =
-    let below = low _ c.args.position.latitude.0 c.north.ensures c.args.position.printable.0 in
+    let below = low _ c.args.position.latitude.0 c.north.ensures c.requires.0.0 in
     let p = c.labelled-middle.ensures in
     let q = c.labelled.ensures in
-    third_room _ below c.args.line.now c.requires _ p.value p.line_after _ c.east.result.few q.value q.line_after
+    third_room _ below c.args.line.now c.requires.1 _ p.value p.line_after _ c.east.result.few q.value q.line_after
 
 pub returns : goal.returns
 returns c =
-    let below = low _ c.args.position.latitude.0 c.north.ensures c.args.position.printable.0 in
+    let below = low _ c.args.position.latitude.0 c.north.ensures c.requires.0.0 in
     let p = c.labelled-middle.ensures in
     let q = c.labelled.ensures in
-    let w = element_written _ below c.args.line.now c.requires _ p.value p.line_after _ c.east.result.few q.value q.line_after c.copy.ensures.value c.copy.ensures.out_after c.args.position.latitude.0 c.args.position.longitude.0 c.north.ensures c.east.ensures in
+    let w = element_written _ below c.args.line.now c.requires.1 _ p.value p.line_after _ c.east.result.few q.value q.line_after c.copy.ensures.value c.copy.ensures.out_after c.args.position.latitude.0 c.args.position.longitude.0 c.north.ensures c.east.ensures in
     record { value = w.0; line_after = w.1 }

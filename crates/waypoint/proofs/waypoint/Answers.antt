@@ -1,7 +1,12 @@
-use Rattle.std.proofs.Common.{◌∙◌}
+use Rattle.std.proofs.Common.{sym, ◌∙◌}
 use Rattle.kinds.proofs.Answers.{handed_on}
-use Rattle.waypoint.proofs.Positions.{position_put, none_put}
+use Rattle.waypoint.proofs.Positions.{printable, position_put, none_put}
 use Rattle.waypoint.proofs.waypoint.Goals as goal
+
+pub put_element-requires : goal.put_element-requires
+put_element-requires c =
+    let s = c.args.point in
+    printable s.code s.latitude s.longitude (sym c.in_ok-position.ensures)
 
 pub returns : goal.returns
 returns c =
