@@ -6,8 +6,8 @@ itself (tests/must_fail.py), and a program with one of them alone goes wrong (te
 
     # first-of-code-1: the first value is that of code 1, whatever the code
     file: src/lib.rt
-    old: floating::first(code, latitude_ms, longitude_ms)
-    new: floating::first(1, latitude_ms, longitude_ms)
+    old: floating::first(point(code, latitude_ms, longitude_ms))
+    new: floating::first(point(1, latitude_ms, longitude_ms))
 
 A slip of a definition, or of a test that the prover computes, names the law of proofs/Demands.antt that it breaks, in a line
 `breaks: LAW`, or `breaks: LAW.FIELD` where the law is a record of several, or `breaks: LAW (FILE)` where it is one of proofs/FILE.antt.
