@@ -54,6 +54,16 @@ impl Datum {
     {
         let frame = self.frame();
         let place = frame.place(position);
+        self.shift_by_tables(place)
+    }
+
+    // The shift at a place where its equations fit. It stands apart, since the compiler then has the equations in short before it
+    // puts them behind the frame.
+    fn shift_by_tables(self, place: Place) -> Shift
+        requires family { is_shift (datum_page self).equations ≡ true }
+        requires fits { AllFit (datum_page self).equations place.u.0 place.v.0 }
+        ensures { shift_says result ≡ evaluated_at (datum_page self).equations place.u.0 place.v.0 }
+    {
         match self {
             Datum::Cyprus => shift_at(
                 place,
@@ -87,6 +97,15 @@ impl Datum {
     {
         let frame = self.frame();
         let place = frame.place(position);
+        self.geoid_by_tables(place)
+    }
+
+    // The geoid height at a place, likewise.
+    fn geoid_by_tables(self, place: Place) -> i32
+        requires family { is_geoid (datum_page self).equations ≡ true }
+        requires fits { AllFit (datum_page self).equations place.u.0 place.v.0 }
+        ensures { geoid result ≡ evaluated_at (datum_page self).equations place.u.0 place.v.0 }
+    {
         match self {
             Datum::Kandawala => geoid_at(place, &kandawala::HEIGHT),
             Datum::Nahrwan => geoid_at(place, &nahrwan::HEIGHT),
