@@ -57,8 +57,8 @@ impl Datum {
         self.shift_by_tables(place)
     }
 
-    // The shift at a place where its equations fit. It stands apart, since the compiler then has the equations in short before it
-    // puts them behind the frame.
+    // The shift at a place, by its tables. With the frame beside them in one function the compiler left products with a zeroth power
+    // in, and a point of code 1 took 13 instructions more.
     fn shift_by_tables(self, place: Place) -> Shift
         requires family { is_shift (datum_page self).equations ≡ true }
         requires fits { AllFit (datum_page self).equations place.u.0 place.v.0 }
@@ -202,8 +202,8 @@ impl Axis {
     }
 }
 
-// The shift at a place, by three tables. It is put into each place that calls it, where a table is a constant, of which the
-// compiler makes straight code.
+// The shift at a place, by three tables. It is put in wherever it is called, where a table is a constant, of which the compiler
+// makes straight code.
 #[inline(always)]
 fn shift_at(place: Place, latitude: &[Term], longitude: &[Term], height: &[Term]) -> Shift
     requires { AllFit (shift_by latitude.now longitude.now height.now) place.u.0 place.v.0 }
