@@ -56,16 +56,16 @@ pub fn size_powers(u: Parts) -> [i64; 10]
 
 // The sum of each coefficient times its product of powers, which is exact. Who calls divides it, by a literal, and rounds once.
 // It is worked by sizes, since a rounding of a number that is not negative is the shorter one; and a term's sign is that of its
-// class. The terms are walked eight at a time: the compiler makes straight code of a loop that short, in which all that a table
+// class. The terms are walked nine at a time: the compiler makes straight code of a loop that short, in which all that a table
 // says is known. Table and powers are two parameters, since a point has one set of powers and up to three tables.
 pub fn sum(table: &[Term], powers: Powers) -> i64
     requires { Room (terms table.now) (size_powers powers.u.0) (size_powers powers.v.0) }
     ensures { result ≡ sum scale (terms table.now) (powers_of scale powers.u.0 10) (powers_of scale powers.v.0 10) }
 {
     let mut sums = [0; 4];
-    for eight in table.chunks(8) {
+    for nine in table.chunks(9) {
         // the toolchain checks no call whose result is laid straight into an array that is there
-        let more = added(sums, eight, powers);
+        let more = added(sums, nine, powers);
         sums = more;
     }
     joined(sums, powers.u.0 < 0, powers.v.0 < 0)

@@ -2,7 +2,7 @@
 use mathlib.Core.Bool.{Bool, false, ◌&&◌}
 use lib.Dec.{T}
 use Rattle.whole.proofs.Bools.{three}
-use Rattle.tables.specs.Page.{Family, shift, geoid, of_each, each, Each, OfShift, OfGeoid, Paired}
+use Rattle.tables.specs.Page.{Family, shift, geoid, of_each, each, Each, OfShift, OfGeoid}
 
 -- ---- by a test
 pub each_by : {A : Type 0} {P : A → Type 0} (test : A → Bool) → ((a : A) → T (test a) → P a) → (family : Family A) → T (each test family) → Each P family
@@ -17,14 +17,6 @@ paired test (shift a b c) (shift d e f) = test a d && (test b e && test c f)
 paired test (geoid a) (geoid b) = test a b
 paired test (shift a b c) (geoid d) = false
 paired test (geoid a) (shift d e f) = false
-
-pub paired_by : {A B : Type 0} {P : A → B → Type 0} (test : A → B → Bool) → ((a : A) (b : B) → T (test a b) → P a b) → (one : Family A) (other : Family B) → T (paired test one other) → Paired P one other
-paired_by test f (shift a b c) (shift d e g) h =
-    let t = three (test a d) (test b e) (test c g) h in
-    (f a d t.0, f b e t.1, f c g t.2)
-paired_by test f (geoid a) (geoid b) h = f a b h
-paired_by test f (shift a b c) (geoid d) h = absurd h
-paired_by test f (geoid a) (shift d e g) h = absurd h
 
 -- ---- by what holds already
 pub shift_so : {A : Type 0} {P Q : A → A → A → Type 0} (family : Family A) → ((a b c : A) → P a b c → Q a b c) → OfShift family P → OfShift family Q

@@ -30,12 +30,9 @@ module _ (self : Datum) (latitude longitude : ℤ) (inside : in_box (datum_page 
       ∙ (λ i. on_axis (frame_is i).v (counted_from (frame_is i).west longitude))
       ∙ v_coded page keeps (longitude_on page longitude)
 
-  -- the datum is d, and what is said of its page is said of d's
-  pub fit : {d : Datum} → self ≡ d → AllFit (datum_page d).equations u v
-  fit e =
-      subst (λ (x : Datum). AllFit (datum_page x).equations u v) e
-      (subst₂ (AllFit page.equations) (sym u_is) (sym v_is) (all_fit page keeps latitude longitude inside))
+  pub fit : AllFit page.equations u v
+  fit = subst₂ (AllFit page.equations) (sym u_is) (sym v_is) (all_fit page keeps latitude longitude inside)
 
-  -- and what they give there is what the page gives
-  pub given : {d : Datum} → self ≡ d → {answer : Family ℤ} → answer ≡ evaluated_at (datum_page d).equations u v → answer ≡ worked page latitude longitude
-  given e h = h ∙ (λ i. evaluated_at (datum_page (sym e i)).equations (u_is i) (v_is i))
+  -- and what these give there is what the page gives
+  pub given : {answer : Family ℤ} → answer ≡ evaluated_at page.equations u v → answer ≡ worked page latitude longitude
+  given h = h ∙ (λ i. evaluated_at page.equations (u_is i) (v_is i))

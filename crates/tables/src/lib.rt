@@ -54,6 +54,16 @@ impl Datum {
     {
         let frame = self.frame();
         let place = frame.place(position);
+        self.shift_by_tables(place)
+    }
+
+    // The shift at a place, by its tables. With the frame beside them in one function the compiler left products with a zeroth power
+    // in, and a point of code 1 took 13 instructions more.
+    fn shift_by_tables(self, place: Place) -> Shift
+        requires family { is_shift (datum_page self).equations ≡ true }
+        requires fits { AllFit (datum_page self).equations place.u.0 place.v.0 }
+        ensures { shift_says result ≡ evaluated_at (datum_page self).equations place.u.0 place.v.0 }
+    {
         match self {
             Datum::Cyprus => shift_at(
                 place,
@@ -87,6 +97,15 @@ impl Datum {
     {
         let frame = self.frame();
         let place = frame.place(position);
+        self.geoid_by_tables(place)
+    }
+
+    // The geoid height at a place, likewise.
+    fn geoid_by_tables(self, place: Place) -> i32
+        requires family { is_geoid (datum_page self).equations ≡ true }
+        requires fits { AllFit (datum_page self).equations place.u.0 place.v.0 }
+        ensures { geoid result ≡ evaluated_at (datum_page self).equations place.u.0 place.v.0 }
+    {
         match self {
             Datum::Kandawala => geoid_at(place, &kandawala::HEIGHT),
             Datum::Nahrwan => geoid_at(place, &nahrwan::HEIGHT),
@@ -183,8 +202,8 @@ impl Axis {
     }
 }
 
-// The shift at a place, by three tables. It is put into each place that calls it, where a table is a constant, of which the
-// compiler makes straight code.
+// The shift at a place, by three tables. It is put in wherever it is called, where a table is a constant, of which the compiler
+// makes straight code.
 #[inline(always)]
 fn shift_at(place: Place, latitude: &[Term], longitude: &[Term], height: &[Term]) -> Shift
     requires { AllFit (shift_by latitude.now longitude.now height.now) place.u.0 place.v.0 }

@@ -35,16 +35,16 @@ none_left pu pv sums e = ap (λ (l : List code.Term). class_sums sums (terms l) 
 
 pub added-more-requires : goal.added-more-requires
 added-more-requires c =
-    part_room c.args.powers.of_u c.args.powers.of_v c.loop-eight.sums _ _ (chunks_rest c.next.new.self) c.in-Some.ensures.steps.1.0 c.loop-eight.invariant.room
+    part_room c.args.powers.of_u c.args.powers.of_v c.loop-nine.sums _ _ (chunks_rest c.next.new.self) c.in-Some.ensures.steps.1.0 c.loop-nine.invariant.room
 
-pub loop-eight-preserved : goal.loop-eight-preserved
-loop-eight-preserved c =
+pub loop-nine-preserved : goal.loop-nine-preserved
+loop-nine-preserved c =
     let steps = c.in-Some.ensures.steps in
     let p = c.args.powers in
     record {
-      eights = steps.0 ∙ c.loop-eight.invariant.eights;
-      goes_on = rest_sums p.of_u p.of_v c.loop-eight.sums _ _ _ steps.1.0 c.added-more.ensures ∙ c.loop-eight.invariant.goes_on;
-      room = rest_room p.of_u p.of_v c.loop-eight.sums _ _ _ steps.1.0 c.loop-eight.invariant.room c.added-more.ensures;
+      nines = steps.0 ∙ c.loop-nine.invariant.nines;
+      goes_on = rest_sums p.of_u p.of_v c.loop-nine.sums _ _ _ steps.1.0 c.added-more.ensures ∙ c.loop-nine.invariant.goes_on;
+      room = rest_room p.of_u p.of_v c.loop-nine.sums _ _ _ steps.1.0 c.loop-nine.invariant.room c.added-more.ensures;
     }
 
 pub returns : goal.returns
@@ -56,8 +56,8 @@ returns c =
     let fu : SFits w64 u = search rules in
     let fv : SFits w64 v = search rules in
     let sums =
-    none_left p.of_u p.of_v c.loop-eight.sums (nil_from_length _ c.in-None.ensures.steps.1.0)
-    ∙ c.loop-eight.invariant.goes_on
+    none_left p.of_u p.of_v c.loop-nine.sums (nil_from_length _ c.in-None.ensures.steps.1.0)
+    ∙ c.loop-nine.invariant.goes_on
     ∙ (λ n. class_sums no_sums ts (p.are.0 n) (p.are.1 n)) in
     (of {w = w64} (record { sfits = c.joined.type_inv })).reads
     ∙ c.joined.ensures
