@@ -88,6 +88,7 @@ fn word_count<E: Env>(rt: &E) -> usize {
 }
 
 // The form that so many words ask for, the program's name among them, by the one after the name.
+#[tactic(auto, using(crate::proofs::Texts::word_asked))]
 fn asked(words: usize, next: &[u8]) -> Option<Form>
     ensures { result ≡ asked words next.now }
 {
