@@ -65,8 +65,8 @@ pub more_written : {before mid : Reading} {xs : List ℕ} {m : ℕ} → Answered
 more_written answered ys a b c one other = subst (Appends a c) (together answered ys) (Appends-trans a b c _ _ one other)
 
 -- so few are handed over for them that they can be counted
-pub few : {before new : Reading} {bytes : List ℕ} {n : ℕ} → Answered before bytes new n → before.left ≤ limit → n ≤ 48 * limit
-few {before} {bytes = bytes} a most = omega (arith, a.left, a.count, answers_short before.form (held before.begun) bytes)
+pub few : {before new : Reading} {bytes : List ℕ} {n : ℕ} → Answered before bytes new n → n ≤ 48 * length bytes
+few {before} {bytes = bytes} a = omega (arith, a.count, answers_short before.form (held before.begun) bytes)
 
 -- ---- text that was put at the start of a buffer
 pub at_start : (text buffer out : List ℕ) (put : ℕ) → put ≡ length text → out ≡ text ++ drop put buffer → take put out ≡ text

@@ -7,7 +7,7 @@
 
 ghost use Rattle.std.specs.Prelude.{◌≡◌, ◌↔◌, ◌+◌, ◌<◌, ◌≤◌, length, take, Ok, IsOk, IfOk, OnOk, IsErr, IsErrOf};
 ghost use Rattle.std.specs.Io.KnownBytes.{Appends, Consumes, IsAtEnd};
-ghost use Rattle.stream.specs.Stream.{head, foot, limit, held, answers, closing};
+ghost use Rattle.stream.specs.Stream.{head, foot, held, answers, closing};
 ghost use Rattle.lines.specs.declared.Failure.TheVariants.{Unwritten};
 ghost use Rattle.lines.specs.Asked.{asked};
 ghost use Rattle.lines.specs.Edges.{edge_text};
@@ -88,6 +88,7 @@ fn word_count<E: Env>(rt: &E) -> usize {
 }
 
 // The form that so many words ask for, the program's name among them, by the one after the name.
+#[tactic(auto, using(crate::proofs::Texts::word_asked))]
 fn asked(words: usize, next: &[u8]) -> Option<Form>
     ensures { result ≡ asked words next.now }
 {
@@ -125,7 +126,7 @@ fn tell<E: Eprint>(rt: &E, form: Form, last: Turn)
 }
 
 // Hands over the head, the answers and the foot. The answer counts the bytes of the last read, and those that were handed over in
-// all.
+// all. No struct of the four that are lent: the proof of `read` did not close by it, where a part of its array is lent.
 fn run<R: Read, W: Write>(
     form: Form,
     reader: &mut R,
@@ -206,7 +207,7 @@ fn read<R: Read, W: Write>(
     input: &mut [u8; INPUT],
     output: &mut [u8; OUTPUT],
 ) -> Result<Turn, Failure>
-    requires { (0 < reading.left) × (reading.left ≤ limit) }
+    requires { 0 < reading.left }
     ensures answered { IfOk result (λ turn. (turn.count ≤ length input.new)
         × Answered reading (take turn.count input.new) turn.reading turn.handed) }
     ensures consumed { IfOk result (λ turn. Consumes (R.remaining reader.old) (R.remaining reader.new) (take turn.count input.new)) }
@@ -220,7 +221,7 @@ fn read<R: Read, W: Write>(
 }
 
 // What becomes of a read into a piece that is not empty: the bytes that it gave are answered, unless it failed. To give none, at
-// the end of the input, is no failure.
+// the end of the input, is no failure. How long a slice may be no type says: so a clause does, here and below.
 fn turned<W: Write>(
     got: io::Result<usize>,
     reading: Reading,
@@ -229,7 +230,7 @@ fn turned<W: Write>(
     output: &mut [u8; OUTPUT],
 ) -> Result<Turn, Failure>
     requires piece_nonzero { 0 < length piece.now }
-    requires piece_len_bound { (length piece.now ≤ reading.left) × (reading.left ≤ limit) }
+    requires piece_len_bound { (length piece.now ≤ reading.left) × (length piece.now ≤ 65536) }
     requires moved { IfOk got (λ count. count ≤ length piece.now) }
     ensures no_bytes { got ≡ Ok 0 → IsOk result }
     ensures unread { IsErrOf result Failure.Unread ↔ IsErr got }
@@ -251,7 +252,7 @@ fn answer<W: Write>(
     piece: &[u8],
     output: &mut [u8; OUTPUT],
 ) -> io::Result<Turn>
-    requires { (length piece.now ≤ reading.left) × (reading.left ≤ limit) }
+    requires { (length piece.now ≤ reading.left) × (length piece.now ≤ 65536) }
     ensures no_bytes { length piece.now ≡ 0 → IsOk result }
     ensures answered { IfOk result (λ turn. (turn.count ≡ length piece.now)
         × Answered reading piece.now turn.reading turn.handed) }

@@ -235,6 +235,7 @@ fn end_for(lines: usize, from: usize, most: usize) -> usize
 }
 
 // The line that is begun once more bytes have come, with no line feed among them.
+#[tactic(auto, using(crate::proofs::Keeping::extended_is))]
 fn extended(begun: Begun, more: &[u8]) -> Begun
     ensures { result ≡ kept (held begun ++ more.now) }
 {

@@ -1,5 +1,5 @@
 -- What was written for a part goes on from what was written before it.
-use Rattle.std.proofs.Common.{arith, ◌+◌, ◌≤◌, length}
+use Rattle.std.proofs.Common.{arith, ◌+◌, ◌≤◌, length, length-take}
 use Rattle.lines.proofs.Pieces.{none, none_written, few, at_start, some_fed, none_past, onward, onward_written}
 use Rattle.lines.proofs.answer.Goals as goal
 
@@ -16,7 +16,7 @@ pub overflow_add-handed : goal.overflow_add-handed
 overflow_add-handed g c =
     let i = c.loop-from.invariant in
     let further = onward c.args.piece.now c.loop-from.from i.answered _ _ c.feed-fed.ensures.taken_value (at_start _ _ _ _ c.feed-fed.ensures.put_value c.feed-fed.ensures.out_after) _ _ c.feed-fed.ensures.reading_value c.in_ok-handed.ensures.value in
-    omega (arith, few further c.requires.1)
+    omega (arith, few further, length-take (c.loop-from.from + c.feed-fed.result.taken) c.args.piece.now)
 
 pub loop-from-smaller : goal.loop-from-smaller
 loop-from-smaller g c =

@@ -18,10 +18,12 @@ loop-turn-init g c = record {
 }
 
 pub overflow_add-handed : goal.overflow_add-handed
-overflow_add-handed g c = omega (arith, few (more c.loop-turn.invariant.answered c.in_ok-turn.ensures.answered.1) (omega arith))
+overflow_add-handed g c = let a = more c.loop-turn.invariant.answered c.in_ok-turn.ensures.answered.1 in omega (arith, few a, a.left)
 
 pub overflow_add-result : goal.overflow_add-result
-overflow_add-result g c = omega (arith, few (more c.loop-turn.invariant.answered c.in_ok-turn.ensures.answered.1) (omega arith), c.in_ok-last.ensures.in_bounds)
+overflow_add-result g c =
+    let a = more c.loop-turn.invariant.answered c.in_ok-turn.ensures.answered.1 in
+    omega (arith, few a, a.left, c.in_ok-last.ensures.in_bounds)
 
 pub returns-then-min-eq0-clause-ended : goal.returns-then-min-eq0-clause-ended
 returns-then-min-eq0-clause-ended g c =

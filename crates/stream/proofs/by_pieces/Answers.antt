@@ -1,4 +1,4 @@
-use Rattle.std.proofs.Common.{arith, sym, ◌∙◌, ◌≡◌, ◌<◌, ◌%◌, length}
+use Rattle.std.proofs.Common.{arith, sym, ◌∙◌, ◌≡◌, ◌%◌, length}
 use Rattle.stream.proofs.Finding.{piece_clear, piece_long, found_in, one_more, found_behind, none_behind}
 use Rattle.stream.proofs.by_pieces.Goals as goal
 use Rattle.stream.proofs.by_pieces.Goals.{then-not-are_clear+in_default, else-not-are_clear}
