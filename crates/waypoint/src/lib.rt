@@ -60,6 +60,7 @@ fn labelled(label: &[u8], number: Degrees, line: &mut [u8]) -> usize
 }
 
 // The latitude of a position.
+#[tactic(auto, using(crate::proofs::Degrees::few_digits))]
 fn north(position: Wgs84Position) -> Degrees
     ensures { result.billionths ≡ degrees position.latitude.0 }
 {
