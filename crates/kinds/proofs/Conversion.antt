@@ -1,26 +1,15 @@
--- What a local position and its shift are converted to: as words, and between which numbers it lies. Assumes nothing.
-use mathlib.Core.Path.{◌≡◌, sym, ap, ◌∙◌, subst}
+-- What a local position and its shift are converted to: between which numbers it lies. Assumes nothing.
+use mathlib.Core.Path.{◌≡◌, sym, subst}
 use mathlib.Core.Bool.{true}
-use Prim.Native.Nat.{◌<◌, ◌^◌}
 use native.Mathlib.Omega.{arith}
 use lib.Dec.{T}
 use lib.IntN.{ℤ, pos, neg_ℤ, ◌*ℤ◌}
-use lib.Signed.{le_z, mag}
-use mir.Syntax.{Width, w32, w64}
-use mir.Val.{hbits, to_z, of_z}
-use mir.Facts.{to_z-of_z}
+use lib.Signed.{le_z}
 use Rattle.whole.proofs.Bools.{both, joined, computed}
 use Rattle.whole.proofs.Orders.{by_parts, of_parts}
 use Rattle.whole.proofs.Ring.{add_is, mul_is}
 use Rattle.kinds.specs.Kinds.{within, is_four_bytes, converted}
 use Rattle.kinds.proofs.Ranges.{in_turn}
-
--- r is what `converted` answers for a field of a kind
-pub of_field : (ms shift r : ℤ) → mag ms < 2 ^ hbits w32 → mag r < 2 ^ hbits w64 → r ≡ converted (to_z w32 (of_z w32 ms)) shift → to_z w64 (of_z w64 r) ≡ converted ms shift
-of_field ms shift r f h e = back w64 r h ∙ e ∙ ap (λ (x : ℤ). converted x shift) (back w32 ms f)
-  where
-    back : (w : Width) (z : ℤ) → mag z < 2 ^ hbits w → to_z w (of_z w z) ≡ z
-    back w z h = to_z-of_z (record { sfits = h })
 
 -- ---- the order
 pub converted_order : (x y s t : ℤ) → le_z x y ≡ true → le_z s t ≡ true → le_z (converted x s) (converted y t) ≡ true

@@ -1,7 +1,7 @@
 -- The laws, by what they are about. Another crate cites them as `Rattle.kinds.proofs.NAME`.
 -- what an answer says of the tests before it, and how what is said determines the answer
 pub mod Answers
--- a raw number that was tested by `within`
+-- a number that was tested: the width that holds it
 pub mod Tested
 -- a range within a wider one
 pub mod Ranges

@@ -1,26 +1,18 @@
 -- Bytes put at the start of a lent buffer, and after those that stand there. Assumes nothing.
-use mathlib.Core.Path.{◌≡◌, refl, sym, ap, ◌∙◌, subst}
+use mathlib.Core.Path.{◌≡◌, refl, sym, ap, ◌∙◌}
 use mathlib.Core.List.{List, [], ◌∷◌, ◌++◌, append-nil, append_assoc}
-use Prim.Native.Nat.{ℕ, suc, ◌+◌, ◌-◌, ◌<◌, ◌≤◌}
+use Prim.Native.Nat.{ℕ, suc, ◌+◌, ◌-◌, ◌<◌}
 use native.Mathlib.Numerals.{add-one}
 use native.Mathlib.Omega.{arith}
 use lib.ListN.{length, take, drop, get_or, set, length-append, length-drop, drop_of_length-le}
-use lib.Seq.{take-length, take_all, take_at, drop_at, drop-cons, drop-drop, set_at, append_snoc}
+use lib.Seq.{take_all, take_at, drop_at, drop-cons, drop-drop, set_at, append_snoc}
 use borrow.Rule.Slice.PartMut.{put_mid}
-use borrow.Author.Tests.{le-leb, lt-leb}
 use Rattle.kinds.specs.Answer.{Answer, gives, refused, placed, counted, lent, following}
 use Rattle.kinds.proofs.Answers.{not_both, same_value}
 
 -- what is to be written was written: a is the answer, and l the buffer afterwards
 abbrev pub Written : Answer (List ℕ) → List ℕ → Answer ℕ → List ℕ → Type 0
 Written w out a l = (a ≡ counted w) × (l ≡ lent w out)
-
-module _ (bytes out : List ℕ) where
-  pub no_room : length out < length bytes → Written (placed bytes (length out)) out (refused 7) out
-  no_room h = simp (lt-leb (length bytes) (length out) h) (refl, refl)
-
-  pub copied : length bytes ≤ length out → Written (placed bytes (length out)) out (gives (length bytes)) (take (length bytes) bytes ++ drop (length bytes) out)
-  copied h = simp (le-leb (length bytes) (length out) h) (refl, ap (λ (l : List ℕ). l ++ drop (length bytes) out) (take-length bytes))
 
 -- ---- after the bytes p, which are b, of the buffer d
 -- a byte
@@ -50,9 +42,6 @@ module _ (p d : List ℕ) {e : List ℕ} {b : ℕ} (is-e : e ≡ p ++ drop b d) 
   pub rest_long : length (take (length e - b) (drop b e)) ≡ length d - b
   rest_long = ap (λ (l : List ℕ). length (take (length l - b) (drop b l))) is-e ∙ ap length (lent_part p d b (sym is_b)) ∙ length-drop b d
 
-  pub still_long : b ≤ length d → length e ≡ length d
-  still_long h = ap length is-e ∙ omega (arith, length-append p (drop b d), length-drop b d, is_b, h)
-
   pub grown_by : (text new : List ℕ) (n : ℕ) → new ≡ text ++ drop n (take (length e - b) (drop b e)) → put_mid b (length e - b) e new ≡ (p ++ text) ++ drop (b + n) d
   grown_by text new n is-new = rw (is-new, is-e) (grown p d text b n (sym is_b))
 
@@ -80,16 +69,8 @@ module _ (w : Answer (List ℕ)) (d new : List ℕ) {r : ℕ} (was : Written w d
       go (gives text) h = (text, (refl, (same_value h.0, h.1 ∙ ap (λ (n : ℕ). text ++ drop n d) (sym (same_value h.0)))))
       go (refused n) h = absurd (not_both h.0)
 
-  pub laid_fits : r ≤ length new
-  laid_fits =
-      let (text, (is-w, (is-r, is-new))) = the_text in
-      subst (λ (l : List ℕ). r ≤ length l) (sym is-new) (omega (arith, is-r, length-append text (drop r d)))
-
   laid_back : take r new ≡ the_text.0
   laid_back = let (text, (is-w, (is-r, is-new))) = the_text in ap (take r) is-new ∙ take_at text (drop r d) r (sym is-r)
-
-  pub laid_counted : r ≡ length (take r new)
-  laid_counted = the_text.1.1.0 ∙ ap length (sym laid_back)
 
   pub laid_put : (out : List ℕ) {a : Answer ℕ} {b : List ℕ} → Written (placed (take r new) (length out)) out a b → Written (following w (λ text. placed text (length out))) out a b
   laid_put out h =

@@ -331,5 +331,5 @@ fn ranged(least: i64, largest: i64, x: i64) -> Result<i64, Refusal>
 fn converted(ms: i32, by: AngleShift) -> i64
     ensures { result ≡ converted ms by.0 }
 {
-    AngleShift::PER_MS * ms as i64 + by.0 as i64
+    AngleShift::PER_MS * i64::from(ms) + i64::from(by.0)
 }

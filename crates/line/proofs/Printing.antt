@@ -64,10 +64,6 @@ module _ {A : Type 0} (made : A → List ℕ) (P : List ℕ → Type 0) where
   given (gives v) p h = subst P (same_value h) (p v refl)
   given (refused n) p h = absurd (not_both (sym h))
 
-  refused_as : (a : Answer A) {n : ℕ} → following a (λ v. gives (made v)) ≡ refused n → a ≡ refused n
-  refused_as (gives v) h = absurd (not_both h)
-  refused_as (refused m) h = cc
-
 -- an element that a line gets
 element_given : (line : List ℕ) {bytes : List ℕ} → element_to line ≡ gives bytes → (north : ℤ) × ((east : ℤ) × ((converted_of (code line) (latitude_of line) (longitude_of line) ≡ gives (north, east)) × (element north east ≡ bytes)))
 element_given line h = of_position (code line) (latitude_of line) (longitude_of line) (all_held (text_tests line) (element_of (code line) (latitude_of line) (longitude_of line)) h).1

@@ -63,6 +63,7 @@ fn labelled(label: &[u8], number: Degrees, line: &mut [u8]) -> usize
 }
 
 // A latitude in decimal degrees.
+#[tactic(auto, using(crate::proofs::Degrees::few_digits))]
 fn north(latitude: Wgs84Latitude) -> Degrees
     requires { nat_abs latitude.0 < 360000000000 }
     ensures { result.billionths ≡ degrees latitude.0 }
