@@ -34,7 +34,8 @@ pub fn read_latitude(text: &[u8]) -> Result<LocalLatitude, Refusal>
 }
 
 // Reads the 12 bytes `dddmmss.sssE` into ms, east positive: `0330000.000E` is 118800000. Refused: 1 another length, 2 a byte
-// that is not of its kind, 3 minutes or seconds from 60 up, or from 360° up.
+// that is not of its kind, 3 minutes or seconds from 60 up, or from 360° up. Beside `read_latitude`, since C has a name for each:
+// what is left in the two are the length, the letters, S after zero and the hundreds.
 #[tactic(auto, using(crate::proofs::Reading::wrong_length))]
 pub fn read_longitude(text: &[u8]) -> Result<LocalLongitude, Refusal>
     ensures { local_longitude result ≡ read longitude text.now }
@@ -45,7 +46,7 @@ pub fn read_longitude(text: &[u8]) -> Result<LocalLongitude, Refusal>
     let hundreds = text[0];
     let rest = text[1..].as_array::<LATITUDE_BYTES>().unwrap();
     let letter = rest[10];
-    if !(is_digit(hundreds) & (letter == b'E')) {
+    if !(hundreds.is_ascii_digit() & (letter == b'E')) {
         return Err(Refusal::Kind);
     }
     let ms = read_angle(rest)?;
@@ -67,7 +68,8 @@ pub fn write_latitude(ms: i64, out: &mut [u8]) -> Result<usize, Refusal>
 }
 
 // Writes a longitude in ms to the first 12 bytes of out: 118800000 is `0330000.000E`. Refused: 3 below 0 or from 360° up, 7
-// out is shorter.
+// out is shorter. Beside `write_latitude`, since C has a name for each: what is left in the two are the kind, the letter and the
+// first digit.
 pub fn write_longitude(ms: i64, out: &mut [u8]) -> Result<usize, Refusal>
     ensures result_value { written result ≡ counted (write longitude ms (length out.old)) }
     ensures out_after { out.new ≡ lent (write longitude ms (length out.old)) out.old }
@@ -100,19 +102,13 @@ const SECONDS: u64 = 4_294_967_296;
 
 const TENTHS: u64 = 65_536;
 
-fn is_digit(b: u8) -> bool
-    ensures { result ≡ is_digit b }
-{
-    (b'0' <= b) & (b <= b'9')
-}
-
-// What a digit says.
+// What a digit says. Each is widened first: by `u64::from(b - b'0')` a reading takes two instructions more.
 fn digit(b: u8) -> u64
     requires { is_digit b ≡ true }
     ensures value { result ≡ digit_of b }
     ensures upper_bound { result < 10 }
 {
-    b as u64 - b'0' as u64
+    u64::from(b) - u64::from(b'0')
 }
 
 // Of the bytes of a latitude's form: the ms that those before the letter say.
@@ -151,7 +147,7 @@ impl Digits<'_> {
         if !((word & NO_FIGURE == 0) & (more & NO_FIGURE == 0)) {
             return None;
         }
-        if !(is_digit(text[0]) & is_digit(text[1])) {
+        if !(text[0].is_ascii_digit() & text[1].is_ascii_digit()) {
             return None;
         }
         Some(Digits { text, word })
