@@ -3,6 +3,8 @@
 // Texts and answers stand in arrays that are lent: none of the test programs allocates, so that none can run out of memory.
 #![tactic(auto)]
 
+ghost use Rattle.std.specs.Prelude.{◌≤◌, length, IfOk};
+
 use std::io;
 use std::io::{Read, Write};
 
@@ -45,13 +47,17 @@ pub fn fill<R: Read>(questions: &mut R, read: &mut [u8]) -> io::Result<()> {
 }
 
 // The start of a buffer, as much of it as is asked: all where more is.
-pub fn room<'a, R: Read>(questions: &mut R, out: &'a mut [u8]) -> io::Result<&'a mut [u8]> {
+pub fn room<'a, R: Read>(questions: &mut R, out: &'a mut [u8]) -> io::Result<&'a mut [u8]>
+    ensures { IfOk result (λ part. length part.now ≤ length out.old) }
+{
     let n = count(questions)?.min(out.len());
     Ok(&mut out[..n])
 }
 
 // A text, after its count: as much of it as a buffer holds, put at its start.
-pub fn text<'a, R: Read>(questions: &mut R, out: &'a mut [u8]) -> io::Result<&'a [u8]> {
+pub fn text<'a, R: Read>(questions: &mut R, out: &'a mut [u8]) -> io::Result<&'a [u8]>
+    ensures { IfOk result (λ text. length text.now ≤ length out.old) }
+{
     let text = room(questions, out)?;
     fill(questions, text)?;
     Ok(text)
