@@ -80,7 +80,9 @@ impl Point {
         self.shifted(shifts)
     }
 
-    // What the point's datum has, its shift or its geoid height: refused, in this order, with 4, 3, 6 as above, and never with 5.
+    // What the point's datum has, its shift or its geoid height: refused, in this order, with 4, 3, 6 as above, and never with 5. A
+    // call of it would take a point of a sheet 26 instructions.
+    #[inline(always)]
     pub fn answer(self) -> Result<Given, Refusal>
         ensures { point_answer result ≡ answer_of self.code self.latitude self.longitude }
     {
