@@ -38,13 +38,6 @@ unfolding unpadded
 first_stays b [] h = refl
 first_stays b (next ∷ rest) h = simp (ne_eqb b 48 h)
 
--- and so does the last one
-last_stays : (l : List ℕ) → length l ≤ 1 → unpadded l ≡ l
-unfolding unpadded
-last_stays [] h = refl
-last_stays (b ∷ []) h = refl
-last_stays (b ∷ next ∷ rest) h = absurd (omega arith)
-
 -- a digit that is no zero
 abbrev pub other : ℕ → Bool
 other b = not (eqb b 48)
