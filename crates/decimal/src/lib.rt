@@ -108,6 +108,7 @@ fn digits(n: u32, line: &mut [u8]) -> usize
 }
 
 // A number in ten digits.
+#[tactic(auto, unfolding(whole::specs::Digits::digits, whole::specs::Places::in_places))]
 fn in_ten(n: u64) -> [u8; 10]
     ensures { result ≡ digits 10 n }
 {

@@ -25,14 +25,3 @@ module _ (from : ℕ) (t : List ℕ) where
   part_two h =
       let one : from + 1 ≡ suc from = omega arith in
       rw one (part_next from 1 t (omega arith) ∙ ap (λ (l : List ℕ). at t from ∷ l) (part_next (suc from) 0 t (omega arith)))
-
-  pub part_four : from + 4 ≤ length t → part from 4 t ≡ at t from ∷ at t (from + 1) ∷ at t (from + 2) ∷ at t (from + 3) ∷ []
-  part_four h =
-      let one : from + 1 ≡ suc from = omega arith in
-      let two : from + 2 ≡ suc (suc from) = omega arith in
-      let three : from + 3 ≡ suc (suc (suc from)) = omega arith in
-      rw (one, two, three)
-      (part_next from 3 t (omega arith)
-      ∙ ap (λ (l : List ℕ). at t from ∷ l) (part_next (suc from) 2 t (omega arith)
-      ∙ ap (λ (l : List ℕ). at t (suc from) ∷ l) (part_next (suc (suc from)) 1 t (omega arith)
-      ∙ ap (λ (l : List ℕ). at t (suc (suc from)) ∷ l) (part_next (suc (suc (suc from))) 0 t (omega arith)))))

@@ -17,10 +17,6 @@ in_turn : {A : Type 0} (a b : Bool) (n : ℕ) (answer : Answer A) → provided a
 in_turn false b n answer = refl
 in_turn true b n answer = refl
 
-refused_anyway : {A : Type 0} (a : Bool) (n : ℕ) → ◌≡◌ {A = Answer A} (provided a n (refused n)) (refused n)
-refused_anyway false n = refl
-refused_anyway true n = refl
-
 -- ---- both texts
 module _ (k : Coordinate) (t : List ℕ) where
   -- of the right length, by its kinds and its ranges

@@ -103,6 +103,7 @@ const SECONDS: u64 = 4_294_967_296;
 const TENTHS: u64 = 65_536;
 
 // What a digit says. Each is widened first: by `u64::from(b - b'0')` a reading takes two instructions more.
+#[tactic(auto, using(whole::proofs::Digits::digit_limits), unfolding(whole::specs::Digits::digit_of))]
 fn digit(b: u8) -> u64
     requires { is_digit b ≡ true }
     ensures value { result ≡ digit_of b }
@@ -155,6 +156,7 @@ impl Digits<'_> {
 
     // Minutes and seconds are below 60: their tens are below 16 with 10 more. The last 1 makes the sum one of all eight bytes; a
     // compiler that finds it to be of three reads these apart.
+    #[tactic(auto, using(crate::proofs::OneWord::tens_fit, crate::proofs::OneWord::sixties))]
     fn in_sixties(self) -> bool
         ensures { result ≡ in_sixties latitude self.entry.text.now }
     {
@@ -162,6 +164,7 @@ impl Digits<'_> {
     }
 
     // The ms that they say.
+    #[tactic(auto, unfolding(crate::specs::Text::angle))]
     fn angle(self) -> u64
         ensures value { result ≡ angle latitude self.entry.text.now }
         ensures upper_bound { result < 400_000_000 }
@@ -189,6 +192,7 @@ impl Digits<'_> {
 }
 
 // The eight bytes `mmss.sss` in one word, less the bits of `0000.000`.
+#[tactic(auto, using(crate::proofs::OneWord::figures_read))]
 fn figures(text: &[u8; LATITUDE_BYTES]) -> u64
     ensures { result ≡ figures text.now }
 {
