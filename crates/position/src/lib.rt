@@ -44,6 +44,7 @@ pub fn read_longitude(text: &[u8]) -> Result<LocalLongitude, Refusal>
         return Err(Refusal::Length);
     };
     let hundreds = text[0];
+    // proved to be there, and not tested; by `split_first` the length is tested twice, four instructions more
     let rest = text[1..].as_array::<LATITUDE_BYTES>().unwrap();
     let letter = rest[10];
     if !(hundreds.is_ascii_digit() & (letter == b'E')) {
