@@ -286,7 +286,7 @@ fn refused(form: Form, why: Refusal, out: &mut [u8]) -> usize
     ensures value { result ≡ length (refused_line form (number_of why)) }
     ensures out_after { out.new ≡ refused_line form (number_of why) ++ drop result out.old }
 {
-    // a match, since a form is data, chosen when the program runs; with one copy after it a refused line takes 19 to 30 % more instructions
+    // a match, since a form is data, chosen when the program runs; with one copy after it a refused line takes 14 to 30 % more instructions
     match form {
         Form::Numbers => kinds::copy(&numbered(b"refused 0\n", 8, why), out),
         Form::Waypoints => kinds::copy(&numbered(b"<!-- refused 0 -->\n", 13, why), out),
