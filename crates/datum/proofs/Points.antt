@@ -5,17 +5,17 @@ use Prim.Native.Nat.{ℕ}
 use lib.Dec.{T}
 use lib.IntN.{ℤ}
 use Rattle.whole.proofs.Bools.{both, joined}
-use Rattle.kinds.specs.Answer.{gives, refused, AllHold}
-use Rattle.kinds.specs.Kinds.{is_position, is_four_bytes}
+use Rattle.kinds.specs.Answer.{Answer, gives, refused, provided, AllHold, following}
+use Rattle.kinds.specs.Kinds.{is_position, is_four_bytes, converted}
 use Rattle.kinds.proofs.Answers as Answers
 use Rattle.kinds.proofs.Answers.{same_value, all_held, first_failed, fails}
 use Rattle.kinds.proofs.Tested.{in_four_bytes}
-use Rattle.tables.specs.Page.{Page, Equation, Family, shift, geoid, each}
+use Rattle.tables.specs.Page.{Page, Equation, Family, shift, geoid, is_shift, each}
 use Rattle.tables.specs.Rule.{in_box, longitude_on, along, worked}
 use Rattle.tables.specs.Inside.{equation_at, evaluated_at, Fits, AllFit}
 use Rattle.tables.proofs.Limits.{page_keeps, all_fit}
-use Rattle.datum.specs.Point.{point_tests, point_of}
-use Rattle.datum.specs.Inside.{located}
+use Rattle.datum.specs.Point.{page_of, point_tests, point_of, tests, shift_of, converted_by, converted_of}
+use Rattle.datum.specs.Inside.{located, shifted_by}
 
 -- ---- a point's answer, by whether it is located
 module _ (page : Page) (latitude longitude : ℤ) where
@@ -51,3 +51,11 @@ of_family equations u v = go equations
 
 pub fit : (page : Page) → T (page_keeps page) → (latitude longitude : ℤ) → in_box page latitude longitude ≡ true → each is_four_bytes (worked page latitude longitude) ≡ true
 fit page h latitude longitude inside = of_family page.equations (along page.u latitude) (along page.v (longitude_on page longitude)) (all_fit page h latitude longitude inside)
+
+-- ---- where the shifts of a point lead is its converted position, where it has a shift
+pub converts : (code latitude longitude : ℤ) {d_lat d_lon d_h : ℤ} → gives (shift d_lat d_lon d_h) ≡ shift_of code latitude longitude
+    → shifted_by d_lat d_lon latitude longitude ≡ converted_of code latitude longitude
+converts code latitude longitude {d_lat} {d_lon} e =
+    let in_range = (all_held (tests is_shift code latitude longitude) (gives (worked (page_of code) latitude longitude)) (sym e)).0.1.1.0 in
+    (λ i. provided (in_range i) 3 (gives (converted latitude d_lat, converted longitude d_lon)))
+    ∙ ap (λ (a : Answer (Family ℤ)). following a (converted_by latitude longitude)) e
