@@ -1,5 +1,6 @@
 // What C calls, and nothing else. include/buckettin.h declares it, with units, ranges, refusals and an example of each call.
-// An answer is numbers, the refusal first: 0, or document 01's number with zeros beside it.
+// An answer is numbers, the refusal first: 0, or document 01's number with zeros beside it. C has a name and a struct for each
+// call: so each stands by itself, and fills its own struct.
 #![tactic(auto)]
 
 ghost use Rattle.std.specs.Prelude.{◌≡◌, ◌<◌, length};

@@ -61,7 +61,8 @@ impl Point {
         Ok(Shifts::from(datum.shift(position)))
     }
 
-    // The geoid height of a point of codes 5 and 6, likewise; refused with 5 of a shift datum.
+    // The geoid height of a point of codes 5 and 6, likewise; refused with 5 of a shift datum. Beside `shift`, whose answer is of
+    // another type.
     // The centre of code 6, at 82,800,000 and 205,200,000 ms, gives 7.464 m.
     pub fn geoid(self) -> Result<Height, Refusal>
         ensures { geoid_answer result ≡ geoid_of self.code self.latitude self.longitude }
@@ -81,7 +82,7 @@ impl Point {
     }
 
     // What the point's datum has, its shift or its geoid height: refused, in this order, with 4, 3, 6 as above, and never with 5. A
-    // call of it would take a point of a sheet 26 instructions.
+    // call of it would take a point of a sheet 26 instructions more.
     #[inline(always)]
     pub fn answer(self) -> Result<Given, Refusal>
         ensures { point_answer result ≡ answer_of self.code self.latitude self.longitude }

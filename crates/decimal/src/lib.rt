@@ -1,4 +1,5 @@
-// Numbers as they are printed.
+// Numbers as they are printed. By hand, and not by `Display`: every byte is promised, no memory is allocated, and each digit counts
+// in how fast a line is answered.
 #![tactic(auto)]
 
 ghost use Rattle.std.specs.Prelude.{◌≡◌, [], ◌∷◌, ◌++◌, ◌+◌, ◌%◌, ◌<◌, ◌≤◌, nat_abs, length, drop};

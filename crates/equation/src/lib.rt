@@ -45,6 +45,7 @@ pub fn size_powers(u: Parts) -> [i64; 10]
     let mut out = [Parts::SCALE; 10];
     out[1] = size as i64;
     let mut power = size;
+    // by places: each power is of the one before
     for k in 2..9 {
         power = whole::nearest(power * size, Parts::DIVISOR);
         out[k] = power as i64;
@@ -64,7 +65,7 @@ pub fn sum(table: &[Term], powers: Powers) -> i64
 {
     let mut sums = [0; 4];
     for nine in table.chunks(9) {
-        // the toolchain checks no call whose result is laid straight into an array that is there
+        // by a local: the toolchain does not cover a call whose result goes straight into an array
         let more = added(sums, nine, powers);
         sums = more;
     }

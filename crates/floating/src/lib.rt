@@ -100,7 +100,8 @@ impl Answer {
     }
 }
 
-// Two functions, and not one of a number and a divisor: each takes one kind, so that a height in seconds does not build.
+// A cast and one division, as document 01 names it. Beside `metres`, since a divisor that is handed over would let a height be
+// read in seconds, and a trait of the two kinds is longer than two functions of one line.
 #[tactic(auto, using(crate::proofs::Calls::once_divided, crate::proofs::Calls::per_second_lem))]
 fn seconds(shift: AngleShift) -> f64
     ensures { result ≡ seconds shift.0 }

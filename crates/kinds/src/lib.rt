@@ -2,7 +2,8 @@
 // angle, and height; why a call is refused; and a text put into a lent buffer. Outside this crate a kind is made by `new`, which
 // tests a raw number (a shift and a height also by `from` 4 bytes, any of which are one; a WGS 84 position also by
 // `shifted`, which does not test), and read by a method: code that takes one kind, or a bare number, for another kind does not
-// build. Each is a tuple struct with limits and a constructor of its own, and they are not made of one: document 01 names this form.
+// build. Each is a tuple struct with limits, a constructor and a reader of its own, and they are not made of one: document 01 names
+// this form.
 #![tactic(auto)]
 
 ghost use Rattle.std.specs.Prelude.{◌≡◌, ◌≤◌, ◌++◌, drop, length};
@@ -34,7 +35,7 @@ pub enum Refusal {
 }
 
 impl Refusal {
-    // Document 01's number, 1 to 9.
+    // Document 01's number, 1 to 9: a table of its own, line by line as `number_of` of specs/ has it, and no discriminants.
     pub fn number(self) -> u8
         ensures { result ≡ number_of self }
     {
@@ -309,7 +310,7 @@ pub struct Wgs84Position {
     pub longitude: Wgs84Longitude,
 }
 
-// Whether x is from the least to the largest, both in.
+// Whether x is from the least to the largest, both in: two comparisons, and no branch between them.
 pub fn within(least: i64, largest: i64, x: i64) -> bool
     ensures { result ≡ within least largest x }
 {

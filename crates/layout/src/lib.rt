@@ -59,7 +59,7 @@ fn laid_out(sheet: &[u8]) -> Result<Layout, Refusal>
     if sheet.len() < CODES {
         return Err(Refusal::Length);
     }
-    // to usize by `as`: the library has no `From<u32>` for it
+    // to usize by `as`, here and below: the library has no `From<u32>` for it
     let datums = numbers::unsigned::<1>(sheet, DATUMS) as usize;
     if MOST_DATUMS < datums {
         return Err(Refusal::Sheet);

@@ -39,6 +39,7 @@ pub fn line_in(form: Form, text: &[u8], out: &mut [u8]) -> Result<usize, Refusal
     ensures out_after { out.new ≡ lent (line_in form text.now (length out.old)) out.old }
 {
     let place = read(text)?;
+    // made in an array, since memory is fixed, with no heap
     let mut line = [0; WAYPOINT];
     let end = laid(form, place, &mut line)?;
     put(&line[..end], out)
@@ -47,7 +48,7 @@ pub fn line_in(form: Form, text: &[u8], out: &mut [u8]) -> Result<usize, Refusal
 // bytes of a line in, before its line feed
 pub const LINE: usize = 26;
 
-// the most bytes of a line out: three numbers of 11, each with the space or the line feed that follows it
+// the most bytes of a line out, for who lends a buffer: three numbers of 11, each with the space or the line feed that follows it
 pub const ANSWER: usize = 36;
 
 // or a waypoint and its line feed
@@ -103,7 +104,7 @@ fn read(text: &[u8]) -> Result<Place, Refusal>
 }
 
 // Of a line whose latitude is refused, by the text of its longitude: the lower number of the two, since a wrong byte comes before
-// what is out of range. After a wrong byte the text is not read.
+// what is out of range. After a wrong byte the text is not read. It is a slice, as the reader takes it.
 #[tactic(auto, using(crate::proofs::Reading::kind_first))]
 fn first_refusal(latitude: Refusal, text: &[u8]) -> Refusal
     requires { length text.now ≡ 12 }

@@ -1,8 +1,8 @@
 // The line program: answers each line of standard input on standard output, with numbers or, where it is called with `--gpx`, in a
-// GPX file of waypoints. Where reading or writing fails, it says so on standard error and stops; where the limit ended the input, it
-// says so there too. No contract says which bytes a descriptor gives and takes: those here say what becomes of the bytes that stand
-// in a buffer after a read, and how many bytes are handed over to be written for them; and of a reader and a writer whose bytes are
-// known, that the output of those that were read is what was written.
+// GPX file of waypoints. Where reading or writing fails, it says so on standard error and stops; where the limit ended the input,
+// it says so there too. No contract says which bytes a descriptor gives and takes: those here say what becomes of the bytes that
+// stand in a buffer after a read, and how many bytes are handed over to be written for them; and of a reader and a writer whose
+// bytes are known, that the output of those that were read is what was written.
 #![tactic(auto)]
 
 ghost use Rattle.std.specs.Prelude.{◌≡◌, ◌↔◌, ◌+◌, ◌<◌, ◌≤◌, length, take, Ok, IsOk, IfOk, OnOk, IsErr, IsErrOf};
@@ -77,7 +77,7 @@ fn main(rt: HostRuntime) {
     }
 }
 
-// How many words the program is called with, its name among them.
+// How many words the program is called with, its name among them. Counted one by one: the library's `args` would allocate them.
 fn word_count<E: Env>(rt: &E) -> usize {
     for i in 0..usize::MAX {
         if let Err(FillError::NotPresent) = rt.arg(i, &mut []) {
@@ -102,6 +102,7 @@ fn asked(words: usize, next: &[u8]) -> Option<Form>
 }
 
 fn in_form<E: Eprint, R: Read, W: Write>(rt: &E, form: Form, reader: &mut R, writer: &mut W) {
+    // in fixed memory, with no heap
     let mut input = [0; INPUT];
     let mut output = [0; OUTPUT];
     match run(form, reader, writer, &mut input, &mut output) {
@@ -221,7 +222,7 @@ fn read<R: Read, W: Write>(
 }
 
 // What becomes of a read into a piece that is not empty: the bytes that it gave are answered, unless it failed. To give none, at
-// the end of the input, is no failure. How long a slice may be no type says: so a clause does, here and below.
+// the end of the input, is no failure. How long the piece may be a clause says, here and below: it is a part of an array.
 fn turned<W: Write>(
     got: io::Result<usize>,
     reading: Reading,

@@ -213,8 +213,8 @@ fn southern(ms: u64) -> Result<LocalLatitude, Refusal>
     LocalLatitude::new(-(ms as i64))
 }
 
-// ms as `dddmmss.sss`, and the letter. A latitude's text is this without its first digit. The last two of three digits are made
-// of the rest by 100, which takes a division less.
+// ms as `dddmmss.sss`, and the letter; by hand, as all that is printed (`decimal`). A latitude's text is this without its first
+// digit. The last two of three digits are made of the rest by 100, which takes a division less.
 fn spelled(ms: u64, letter: u8) -> [u8; 12]
     ensures { result ≡ spelled longitude ms letter }
 {

@@ -96,7 +96,8 @@ fn point_record(bytes: &[u8; layout::POINT]) -> [u8; RECORD]
     }
 }
 
-// The records of all points, at the start of out. By places: of what is written through `chunks_exact_mut` a proof knows nothing.
+// The records of all points, at the start of out. By places: which bytes are written through `chunks_exact_mut` no promise of the
+// library says.
 #[tactic(auto, using(crate::proofs::Results::no_records, crate::proofs::Results::copied, crate::proofs::Results::turn, crate::proofs::Results::turn_long))]
 fn records(points: &[[u8; layout::POINT]], out: &mut [u8])
     requires { length points.now * record_length ≤ length out.old }
@@ -107,7 +108,8 @@ fn records(points: &[[u8; layout::POINT]], out: &mut [u8])
     }
 }
 
-// The serial and the count of points, as the sheet has them, and the records, at the start of a result that has room for them.
+// The serial and the count of points, as the sheet has them, and the records, at the start of a result that has room for them. The
+// two are slices: to take them as arrays, each would have to be proved to be there where it is cut.
 fn put(serial: &[u8], count: &[u8], points: &[[u8; layout::POINT]], res: &mut [u8])
     requires serial_len { length serial.now ≡ 4 }
     requires count_len { length count.now ≡ 2 }

@@ -12,8 +12,8 @@ ghost use Rattle.stream.specs.Inside.{first_feed, Clear, AllClear, end_for};
 use kinds::Refusal;
 use line::{Form, LINE, WAYPOINT};
 
-// The first bytes of a line whose line feed has not come. Of a longer line 27 are kept, which are refused as it is: an array and a count,
-// since memory is fixed, with no heap.
+// The first bytes of a line whose line feed has not come. Of a longer line 27 are kept, which are refused as it is. An array and a
+// count, since memory is fixed, with no heap.
 #[derive(Clone, Copy)]
 pub struct Begun {
     bytes: [u8; KEPT],
@@ -50,7 +50,7 @@ const WORD: usize = 8;
 
 const BLOCK: usize = 128;
 
-// No line is begun.
+// No line is begun. By hand, since it says which state this is.
 impl Default for Begun {
     ghost is_default = { λ begun. begun ≡ kept [] };
 
@@ -83,8 +83,8 @@ impl Reading {
     }
 }
 
-// Takes the next bytes of an input, as far as they may be taken and for as many lines as out has room for, at 48 bytes each. Puts the
-// answers of the lines that end in them at the start of out, a line each. The last clause follows from the others: it is what
+// Takes the next bytes of an input, as far as they may be taken and for as many lines as out has room for, at 48 bytes each. Puts
+// the answers of the lines that end in them at the start of out, a line each. The last clause follows from the others: it is what
 // lending `&out[..put]` asks of a caller.
 pub fn feed(reading: Reading, bytes: &[u8], out: &mut [u8]) -> Fed
     ensures taken_value { result.taken ≡ taken_of (take reading.left bytes.now) (length out.old) }
@@ -240,7 +240,8 @@ fn extended(begun: Begun, more: &[u8]) -> Begun
     ensures { result ≡ kept (held begun ++ more.now) }
 {
     let held = begun.bytes;
-    // no state that this crate makes has a higher count; a ghost field for it would put a proof in specs/, and Begun in a file apart
+    // no state that this crate makes has a higher count; a ghost field would say so, but `kept` in specs/, which makes a state,
+    // would then have a proof in it
     let first = begun.count.min(KEPT);
     let mut bytes = [0; KEPT];
     kinds::copy(&held[..first], &mut bytes);
@@ -252,7 +253,7 @@ fn extended(begun: Begun, more: &[u8]) -> Begun
     }
 }
 
-// Prints the line that the rest ends.
+// Prints the line that the rest ends. Here and below, how much room is asked depends on the line: no type says it.
 fn ended(form: Form, begun: Begun, rest: &[u8], out: &mut [u8]) -> usize
     requires { length (printed form (held begun ++ rest.now)) ≤ length out.old }
     ensures value { result ≡ length (printed form (held begun ++ rest.now)) }
@@ -286,7 +287,8 @@ fn refused(form: Form, why: Refusal, out: &mut [u8]) -> usize
     ensures value { result ≡ length (refused_line form (number_of why)) }
     ensures out_after { out.new ≡ refused_line form (number_of why) ++ drop result out.old }
 {
-    // a match, since a form is data, chosen when the program runs; with one copy after it a refused line takes 14 to 30 % more instructions
+    // a match, since a form is data, chosen when the program runs; with one copy after it a refused line takes 14 to 30 % more
+    // instructions
     match form {
         Form::Numbers => kinds::copy(&numbered(b"refused 0\n", 8, why), out),
         Form::Waypoints => kinds::copy(&numbered(b"<!-- refused 0 -->\n", 13, why), out),

@@ -57,8 +57,9 @@ impl Datum {
         self.shift_by_tables(place)
     }
 
-    // The shift at a place, by its tables. With the frame beside them in one function the compiler left products with a zeroth power
-    // in, and a point of code 1 took 13 instructions more.
+    // The shift at a place, by its tables. With the frame beside them in one function the compiler left products with a zeroth
+    // power in, and a point of code 1 took 13 instructions more. That all fits is asked with each place, and not kept in it: a
+    // place knows no datum.
     fn shift_by_tables(self, place: Place) -> Shift
         requires family { is_shift (datum_page self).equations ≡ true }
         requires fits { AllFit (datum_page self).equations place.u.0 place.v.0 }
@@ -79,7 +80,7 @@ impl Datum {
                 &alaska::HEIGHT,
             ),
             Datum::Qatar => shift_at(place, &qatar::LATITUDE, &qatar::LONGITUDE, &qatar::HEIGHT),
-            // never asked; with a trap here the compiler would work the equations where only a refusal is wanted
+            // never asked; were it to stop here, the compiler would work the equations where only a refusal is wanted
             Datum::Kandawala | Datum::Nahrwan => Shift {
                 latitude: 0,
                 longitude: 0,
@@ -88,7 +89,8 @@ impl Datum {
         }
     }
 
-    // The geoid height of a position of the area in mm, where the datum has geoid heights.
+    // The geoid height of a position of the area in mm, where the datum has geoid heights. Beside `shift`, and not one enum of
+    // both: that took a shift nine instructions more.
     #[inline(never)]
     pub fn geoid(self, position: LocalPosition) -> i32
         requires family { is_geoid (datum_page self).equations ≡ true }

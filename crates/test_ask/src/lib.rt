@@ -1,9 +1,9 @@
-// How the test programs read what they are asked: a letter, and after it numbers, texts and counts, as tests/program.py writes them.
-// Past the end of the input there is no letter, a number is 0, and a text has no bytes.
-// Texts and answers stand in arrays that are lent: none of the test programs allocates, so that none can run out of memory.
+// How the test programs read what they are asked: a letter, and after it numbers, texts and counts, as tests/program.py writes
+// them. Past the end of the input there is no letter, a number is 0, and a text has no bytes. Texts and answers stand in arrays
+// that are lent: none of the test programs allocates, so that none can run out of memory.
 #![tactic(auto)]
 
-ghost use Rattle.std.specs.Prelude.{◌≤◌, length, IfOk};
+ghost use Rattle.std.specs.Prelude.{◌≡◌, ◌≤◌, length, take, IfOk};
 
 use std::io;
 use std::io::{Read, Write};
@@ -48,7 +48,7 @@ pub fn fill<R: Read>(questions: &mut R, read: &mut [u8]) -> io::Result<()> {
 
 // The start of a buffer, as much of it as is asked: all where more is.
 pub fn room<'a, R: Read>(questions: &mut R, out: &'a mut [u8]) -> io::Result<&'a mut [u8]>
-    ensures { IfOk result (λ part. length part.now ≤ length out.old) }
+    ensures { IfOk result (λ part. (length part.now ≤ length out.old) × (part.now ≡ take (length part.now) out.old)) }
 {
     let n = count(questions)?.min(out.len());
     Ok(&mut out[..n])

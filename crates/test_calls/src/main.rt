@@ -39,7 +39,7 @@ fn floats<W: Write>(answers: &mut W, code: i64, latitude: i64, longitude: i64) -
     test_show::number(answers, refusal)
 }
 
-// A point through the six calls that take one.
+// A point through the six calls that take one: as three numbers, which is how C has it.
 fn point<W: Write>(answers: &mut W, code: i64, latitude: i64, longitude: i64) -> io::Result<()> {
     shift(answers, code, latitude, longitude)?;
     geoid(answers, code, latitude, longitude)?;
@@ -114,6 +114,7 @@ fn waypoint<R: io::Read, W: Write>(questions: &mut R, answers: &mut W) -> io::Re
 }
 
 fn answer<R: io::Read, W: Write>(questions: &mut R, answers: &mut W, letter: u8) -> io::Result<()> {
+    // the letter says at run time what is asked (`each` of test_ask)
     match letter {
         b'=' => test_ask::label(questions, answers),
         b'p' => point(

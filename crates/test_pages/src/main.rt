@@ -35,6 +35,7 @@ fn point<W: Write>(answers: &mut W, point: Point) -> io::Result<()> {
 }
 
 fn answer<R: Read, W: Write>(questions: &mut R, answers: &mut W, letter: u8) -> io::Result<()> {
+    // the letter says at run time what is asked (`each` of test_ask)
     match letter {
         b'=' => test_ask::label(questions, answers),
         b'f' => floats::made(answers, test_ask::number(questions)?),

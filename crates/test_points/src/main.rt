@@ -15,6 +15,7 @@ fn line<R: Read, W: Write>(questions: &mut R, answers: &mut W) -> io::Result<()>
 }
 
 fn answer<R: Read, W: Write>(questions: &mut R, answers: &mut W, letter: u8) -> io::Result<()> {
+    // the letter says at run time what is asked (`each` of test_ask)
     match letter {
         b'=' => test_ask::label(questions, answers),
         b'l' => line(questions, answers),

@@ -86,7 +86,7 @@ pub fn written<W: Write>(answers: &mut W, count: Result<usize, Refusal>) -> io::
 }
 
 // What a call answers that writes into the start of a lent buffer; and all of the buffer, as text.
-// The call stands at each caller: a closure for it is no shorter, and one over a call that is a parameter gets no proof.
+// Text, room and call stand at each caller: with a closure for the call they are no shorter.
 pub fn lent<W: Write>(
     answers: &mut W,
     count: Result<usize, Refusal>,

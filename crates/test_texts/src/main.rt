@@ -49,6 +49,7 @@ fn written<R: Read, W: Write, F: Fn(i64, &mut [u8]) -> Result<usize, Refusal>>(
 }
 
 fn answer<R: Read, W: Write>(questions: &mut R, answers: &mut W, letter: u8) -> io::Result<()> {
+    // the letter says at run time what is asked (`each` of test_ask)
     match letter {
         b'=' => test_ask::label(questions, answers),
         b'r' => read(questions, answers),

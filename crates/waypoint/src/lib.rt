@@ -30,6 +30,8 @@ pub fn waypoint(point: Point, out: &mut [u8]) -> Result<usize, Refusal>
     put_element(position, out)
 }
 
+// Made in an array, since memory is fixed, with no heap. With `line_in` of `line` it shares three lines: one function for both
+// would take a closure and a size.
 fn put_element(position: Wgs84Position, out: &mut [u8]) -> Result<usize, Refusal>
     requires { Printable position.latitude.0 position.longitude.0 }
     ensures result_value { written result ≡ counted (placed (element position.latitude.0 position.longitude.0) (length out.old)) }
@@ -40,7 +42,7 @@ fn put_element(position: Wgs84Position, out: &mut [u8]) -> Result<usize, Refusal
     put(&text[..end], out)
 }
 
-// The element of a position, at the start of what is lent.
+// The element of a position, at the start of what is lent. By hand, as all that is printed (`decimal`).
 pub fn element(position: Wgs84Position, line: &mut [u8]) -> usize
     requires { Printable position.latitude.0 position.longitude.0 × (47 ≤ length line.old) }
     ensures value { result ≡ length (element position.latitude.0 position.longitude.0) }
@@ -51,7 +53,7 @@ pub fn element(position: Wgs84Position, line: &mut [u8]) -> usize
     end + kinds::copy(b"\"/>", &mut line[end..])
 }
 
-// A label and the decimal degrees that it stands before. A call of it would take a waypoint 51 instructions.
+// A label and the decimal degrees that it stands before. A call of it would take a waypoint 51 instructions more.
 #[inline(always)]
 fn labelled(label: &[u8], number: Degrees, line: &mut [u8]) -> usize
     requires { length label.now + 14 ≤ length line.old }
@@ -89,7 +91,8 @@ fn east(longitude: Wgs84Longitude) -> Degrees
     }
 }
 
-// Billionths of a degree, of which 25 are 9 units.
+// Billionths of a degree, of which 25 are 9 units. The limit stands here and at the two coordinates: these are tuple structs, which
+// can have no ghost field.
 fn in_billionths(units: i64) -> i64
     requires { nat_abs units < 360000000000 }
     ensures { result ≡ degrees units }

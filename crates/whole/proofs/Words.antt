@@ -61,9 +61,6 @@ tested op p q e = sym (λ i. op (p.reads i) (q.reads i)) ∙ e
 pub cast : {w : Width} (v : Width) {a : ℕ} {x : ℤ} → Holds w a x → SFits v x → Holds v (of_z v (to_z w a)) x
 cast v p f = to p.reads (of (subst (SFits v) (sym p.reads) f))
 
-pub cast_asks : {w v : Width} {a : ℕ} {x : ℤ} → Holds w a x → SFits v x → SFits v (to_z w a)
-cast_asks {v = v} p f = subst (SFits v) (sym p.reads) f
-
 -- a 4-byte number as an i64
 pub widened : {x : ℤ} → SFits w32 x → Holds w64 (of_z w64 (to_z w32 (of_z w32 x))) x
 widened f = cast w64 (of f) (sfits_widen tt f)
