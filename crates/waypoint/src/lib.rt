@@ -81,7 +81,8 @@ fn east(longitude: Wgs84Longitude) -> Degrees
     ensures { result.billionths ≡ east_or_west (degrees longitude.0) }
 {
     let rounded = in_billionths(longitude.units());
-    if HALF_TURN <= rounded {
+    let is_west = HALF_TURN <= rounded;
+    if is_west {
         return Degrees {
             billionths: rounded - 2 * HALF_TURN,
         };

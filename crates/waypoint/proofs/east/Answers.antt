@@ -18,7 +18,7 @@ pub invariant_of-result : goal.invariant_of-result
 invariant_of-result c =
     let is = (of {w = w64} (record { sfits = c.in_billionths-rounded.type_inv })).reads ∙ c.in_billionths-rounded.ensures ∙ ap degrees ((of {w = w64} (record { sfits = c.units.type_inv })).reads ∙ c.units.ensures) in
     let rounded = to_z w64 (of_z w64 c.in_billionths-rounded.result) in
-    let below = wrapped rounded c.if-rounded-ge-HALF_TURN.true (subst (λ (z : ℤ). nat_abs (east_or_west z) < 1000000000000) (sym is) (few_wrapped c.args.longitude.0 c.requires)) in
+    let below = wrapped rounded c.if-is_west.true (subst (λ (z : ℤ). nat_abs (east_or_west z) < 1000000000000) (sym is) (few_wrapped c.args.longitude.0 c.requires)) in
     record { few = held (rounded -ℤ pos 360000000000) below }
 
 pub invariant_of-result-2 : goal.invariant_of-result-2
