@@ -1,6 +1,6 @@
 -- What a call says of a code, by the page that the code has. Assumes nothing.
 use mathlib.Core.Path.{◌≡◌, refl, sym, ap, ◌∙◌}
-use mathlib.Core.Bool.{Bool, true}
+use mathlib.Core.Bool.{Bool, true, false}
 use Prim.Native.Nat.{ℕ}
 use lib.IntN.{ℤ}
 use Rattle.kinds.specs.Answer.{gives, refused, provided}
@@ -37,6 +37,15 @@ module _ (family : Family Equation → Bool) (code : ℤ) {page : Page} (coded :
 
     pub refused_is : {n : ℕ} → refused n ≡ located page latitude longitude → refused n ≡ asked family code latitude longitude
     refused_is {n} e = sym (refuses page latitude longitude n (sym e)) ∙ on_page
+
+-- or it was refused the code, and hands that refusal on
+pub refused_code : (family : Family Equation → Bool) (code latitude longitude : ℤ) {n : ℕ} → refused n ≡ coded_as family code → refused n ≡ asked family code latitude longitude
+refused_code family code latitude longitude {n} = go (is_code code) (family (page_of code).equations)
+  where
+    go : (known same : Bool) → refused n ≡ provided known 4 (provided same 5 (gives (page_of code))) → refused n ≡ provided known 4 (provided same 5 (point_of (page_of code) latitude longitude))
+    go false same e = cc
+    go true false e = cc
+    go true true e = cc
 
 -- what such a call gives is of the family
 pub of_family : (family : Family Equation → Bool) (given : Family ℤ → Bool) → ((f : Equation → ℤ) (e : Family Equation) → given (of_each f e) ≡ family e)

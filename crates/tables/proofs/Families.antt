@@ -1,8 +1,11 @@
 -- What holds of each of a family's values: by a test of each, and by what holds already. Assumes nothing.
-use mathlib.Core.Bool.{Bool, false, ◌&&◌}
+use mathlib.Core.Path.{◌≡◌, refl, sym}
+use mathlib.Core.Bool.{Bool, true, false, ◌&&◌, false≢true}
 use lib.Dec.{T}
+use lib.IntN.{ℤ}
 use Rattle.whole.proofs.Bools.{three}
-use Rattle.tables.specs.Page.{Family, shift, geoid, of_each, each, Each, OfShift, OfGeoid}
+use Rattle.tables.specs.Page.{Family, shift, geoid, is_shift, is_geoid, of_each, each, Each, OfShift, OfGeoid}
+use Rattle.tables.specs.Inside.{shift_or_none, geoid_or_none}
 
 -- ---- by a test
 pub each_by : {A : Type 0} {P : A → Type 0} (test : A → Bool) → ((a : A) → T (test a) → P a) → (family : Family A) → T (each test family) → Each P family
@@ -31,3 +34,12 @@ geoid_so (geoid n) f p = f n p
 pub each_of : {A B : Type 0} (P : B → Type 0) (work : A → B) (family : Family A) → Each (λ a. P (work a)) family → Each P (of_each work family)
 each_of P work (shift a b c) h = h
 each_of P work (geoid n) h = h
+
+-- a datum of shifts gives its shift, and one of geoid heights its geoid height
+pub its_shift : {A : Type 0} (work : A → ℤ) (family : Family A) → is_shift family ≡ true → shift_or_none (of_each work family) ≡ of_each work family
+its_shift work (shift a b c) h = refl
+its_shift work (geoid n) h = absurd (false≢true h)
+
+pub its_geoid : {A : Type 0} (work : A → ℤ) (family : Family A) → is_geoid family ≡ true → geoid_or_none (of_each work family) ≡ of_each work family
+its_geoid work (shift a b c) h = absurd (false≢true h)
+its_geoid work (geoid n) h = refl

@@ -76,6 +76,15 @@ equation_at divisor terms u v = equation_of divisor terms (powers_of scale u 10)
 abbrev pub evaluated_at : Family Equation → ℤ → ℤ → Family ℤ
 evaluated_at equations u v = evaluated equations (powers_of scale u 10) (powers_of scale v 10)
 
+-- ---- of what a datum gives, its shift, and three zeros of a geoid datum; its geoid height, and 0 of a shift datum
+abbrev pub shift_or_none : Family ℤ → Family ℤ
+shift_or_none (shift a b c) = shift a b c
+shift_or_none (geoid n) = shift (pos 0) (pos 0) (pos 0)
+
+abbrev pub geoid_or_none : Family ℤ → Family ℤ
+geoid_or_none (shift a b c) = geoid (pos 0)
+geoid_or_none (geoid n) = geoid n
+
 -- ---- what is asked, and shown of every point of a box by the test that proofs/Limits computes
 -- of u and v: their powers can be worked
 abbrev pub Small : ℤ → ℤ → Type 0

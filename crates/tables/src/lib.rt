@@ -11,9 +11,9 @@ mod qatar;
 ghost use Rattle.std.specs.Prelude.{◌≡◌, true, ◌≤◌, nat_abs};
 ghost use Rattle.whole.specs.Round.{scale};
 ghost use Rattle.equation.specs.Inside.{terms};
-ghost use Rattle.tables.specs.Page.{geoid, is_shift, is_geoid};
+ghost use Rattle.tables.specs.Page.{geoid};
 ghost use Rattle.tables.specs.Rule.{counted_from, enclosed, in_box, worked};
-ghost use Rattle.tables.specs.Inside.{datum_page, frame_of, on_axis, shift_by, geoid_by, equation_at, evaluated_at, shift_says, Fits, AllFit, Close};
+ghost use Rattle.tables.specs.Inside.{datum_page, frame_of, on_axis, shift_by, geoid_by, equation_at, evaluated_at, shift_says, shift_or_none, geoid_or_none, Fits, AllFit, Close};
 
 use equation::{Powers, Term};
 use kinds::{LocalLatitude, LocalLongitude, LocalPosition, within};
@@ -44,13 +44,12 @@ impl Datum {
         }
     }
 
-    // The shift of a position of the area, where the datum has shifts. It stands apart from the tests of a point, so that a
+    // The shift of a position of the area, or three zeros of a geoid datum. It stands apart from the tests of a point, so that a
     // refusal is short.
     #[inline(never)]
     pub fn shift(self, position: LocalPosition) -> Shift
-        requires family { is_shift (datum_page self).equations ≡ true }
-        requires inside { in_box (datum_page self) position.latitude.0 position.longitude.0 ≡ true }
-        ensures { shift_says result ≡ worked (datum_page self) position.latitude.0 position.longitude.0 }
+        requires { in_box (datum_page self) position.latitude.0 position.longitude.0 ≡ true }
+        ensures { shift_says result ≡ shift_or_none (worked (datum_page self) position.latitude.0 position.longitude.0) }
     {
         let frame = self.frame();
         let place = frame.place(position);
@@ -61,9 +60,8 @@ impl Datum {
     // power in, and a point of code 1 took 13 instructions more. That all fits is asked with each place, and not kept in it: a
     // place knows no datum.
     fn shift_by_tables(self, place: Place) -> Shift
-        requires family { is_shift (datum_page self).equations ≡ true }
-        requires fits { AllFit (datum_page self).equations place.u.0 place.v.0 }
-        ensures { shift_says result ≡ evaluated_at (datum_page self).equations place.u.0 place.v.0 }
+        requires { AllFit (datum_page self).equations place.u.0 place.v.0 }
+        ensures { shift_says result ≡ shift_or_none (evaluated_at (datum_page self).equations place.u.0 place.v.0) }
     {
         match self {
             Datum::Cyprus => shift_at(
@@ -80,7 +78,7 @@ impl Datum {
                 &alaska::HEIGHT,
             ),
             Datum::Qatar => shift_at(place, &qatar::LATITUDE, &qatar::LONGITUDE, &qatar::HEIGHT),
-            // never asked; were it to stop here, the compiler would work the equations where only a refusal is wanted
+            // were it to stop here, the compiler would work the equations where only a refusal is wanted
             Datum::Kandawala | Datum::Nahrwan => Shift {
                 latitude: 0,
                 longitude: 0,
@@ -89,13 +87,12 @@ impl Datum {
         }
     }
 
-    // The geoid height of a position of the area in mm, where the datum has geoid heights. Beside `shift`, and not one enum of
-    // both: that took a shift nine instructions more.
+    // The geoid height of a position of the area in mm, or 0 of a shift datum. Beside `shift`, and not one enum of both: that took
+    // a shift nine instructions more.
     #[inline(never)]
     pub fn geoid(self, position: LocalPosition) -> i32
-        requires family { is_geoid (datum_page self).equations ≡ true }
-        requires inside { in_box (datum_page self) position.latitude.0 position.longitude.0 ≡ true }
-        ensures { geoid result ≡ worked (datum_page self) position.latitude.0 position.longitude.0 }
+        requires { in_box (datum_page self) position.latitude.0 position.longitude.0 ≡ true }
+        ensures { geoid result ≡ geoid_or_none (worked (datum_page self) position.latitude.0 position.longitude.0) }
     {
         let frame = self.frame();
         let place = frame.place(position);
@@ -104,14 +101,13 @@ impl Datum {
 
     // The geoid height at a place, likewise.
     fn geoid_by_tables(self, place: Place) -> i32
-        requires family { is_geoid (datum_page self).equations ≡ true }
-        requires fits { AllFit (datum_page self).equations place.u.0 place.v.0 }
-        ensures { geoid result ≡ evaluated_at (datum_page self).equations place.u.0 place.v.0 }
+        requires { AllFit (datum_page self).equations place.u.0 place.v.0 }
+        ensures { geoid result ≡ geoid_or_none (evaluated_at (datum_page self).equations place.u.0 place.v.0) }
     {
         match self {
             Datum::Kandawala => geoid_at(place, &kandawala::HEIGHT),
             Datum::Nahrwan => geoid_at(place, &nahrwan::HEIGHT),
-            // never asked, likewise
+            // likewise
             Datum::Cyprus | Datum::Minna | Datum::Alaska | Datum::Qatar => 0,
         }
     }

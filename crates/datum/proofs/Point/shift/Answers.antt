@@ -1,24 +1,39 @@
-use Rattle.std.proofs.Common.{◌∙◌}
+use Rattle.std.proofs.Common.{◌≡◌, Ok, Err, ◌∙◌, rules}
+use Rattle.kinds.specs.Cases.{local_position}
 use Rattle.kinds.proofs.Answers.{handed_on}
 use Rattle.tables.specs.Page.{is_shift}
 use Rattle.tables.specs.Inside.{datum_page}
+use Rattle.tables.proofs.Families.{its_shift}
 use Rattle.datum.specs.Cases.{shift_says}
+use Rattle.datum.specs.Inside.{datum_answer, coded_as, located}
 use Rattle.datum.proofs.Points.{inside}
-use Rattle.datum.proofs.Calls.{its_family, worked_is, refused_is}
+use Rattle.datum.proofs.Calls.{its_family, worked_is, refused_is, refused_code}
 use Rattle.datum.proofs.Point.shift.Goals as goal
 
 pub shift-requires : goal.shift-requires
-shift-requires c = record {
-  family = its_family is_shift c.args.self.code c.in_ok-datum.ensures;
-  inside = inside (datum_page c.in_ok-datum.datum) c.args.self.latitude c.args.self.longitude c.in_ok-position.ensures;
-}
+shift-requires c =
+    let self = c.args.self in
+    let p : local_position (Ok c.in_ok-position.position) ≡ located (datum_page c.in_ok-datum.datum) self.latitude self.longitude = search rules in
+    inside (datum_page c.in_ok-datum.datum) self.latitude self.longitude p
 
 pub returns : goal.returns
 returns c =
-    worked_is is_shift c.args.self.code c.in_ok-datum.ensures c.args.self.latitude c.args.self.longitude c.in_ok-position.ensures
-    (c.from.ensures ∙ c.shift.ensures)
+    let self = c.args.self in
+    let d : datum_answer (Ok c.in_ok-datum.datum) ≡ coded_as is_shift self.code = search rules in
+    let p : local_position (Ok c.in_ok-position.position) ≡ located (datum_page c.in_ok-datum.datum) self.latitude self.longitude = search rules in
+    worked_is is_shift self.code d self.latitude self.longitude p (c.from.ensures ∙ c.shift.ensures ∙ its_shift _ _ (its_family is_shift self.code d))
+
+pub returns-in_err-datum : goal.returns-in_err-datum
+returns-in_err-datum c =
+    let self = c.args.self in
+    let d : datum_answer (Err c.in_err-datum.field-0.0) ≡ coded_as is_shift self.code = search rules in
+    handed_on shift_says c.from_residual.result _ c.from_residual.ensures.1
+    ∙ refused_code is_shift self.code self.latitude self.longitude d
 
 pub returns-in_err-position : goal.returns-in_err-position
 returns-in_err-position c =
+    let self = c.args.self in
+    let d : datum_answer (Ok c.in_ok-datum.datum) ≡ coded_as is_shift self.code = search rules in
+    let p : local_position (Err c.in_err-position.field-0.0) ≡ located (datum_page c.in_ok-datum.datum) self.latitude self.longitude = search rules in
     handed_on shift_says c.from_residual-in_err-position.result _ c.from_residual-in_err-position.ensures.1
-    ∙ refused_is is_shift c.args.self.code c.in_ok-datum.ensures c.args.self.latitude c.args.self.longitude c.in_err-position.ensures
+    ∙ refused_is is_shift self.code d self.latitude self.longitude p
