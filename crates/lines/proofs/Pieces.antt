@@ -6,7 +6,7 @@ use mathlib.Core.Logic.{◌⊎◌, inl, inr}
 use Prim.Native.Nat.{ℕ, zero, suc, ◌+◌, ◌-◌, ◌*◌, ◌<◌, ◌≤◌, min}
 use native.Mathlib.Omega.{arith}
 use lib.ListN.{length, take, drop, length-append, length-take, length-drop}
-use lib.Seq.{take_all, take_at, drop_at, take-add}
+use lib.Seq.{take_all, take_at, drop_at, take-take, take-add}
 use Rattle.std.specs.Prelude.{Option, None, Some, IfSome}
 use Rattle.std.specs.Io.KnownBytes.{Appends, Consumes, IsAtEnd}
 use Rattle.std.proofs.KnownBytes.{Appends-nil, Appends-trans}
@@ -107,31 +107,39 @@ module _ (piece : List ℕ) (from : ℕ) {before mid : Reading} {h : ℕ} (a : A
     pub none_past : from ≤ length piece → from + n ≤ length piece
     none_past h = omega (arith, is-n, taken_within (take mid.left rest) room, length-take mid.left rest, rest_long)
 
-    joined : take from piece ++ take n rest ≡ take (from + n) piece
-    joined = ap (λ (l : List ℕ). take from piece ++ take n l) rest_is ∙ sym (take-add from n piece)
+    -- as they are lent to be handed over
+    lent_is : take (from + n - from) (drop from piece) ≡ take n rest
+    lent_is = let e : from + n - from ≡ n = omega arith in ap (λ (k : ℕ). take k (drop from piece)) e ∙ ap (take n) (sym rest_is)
 
-    -- as what is put for them is handed over
-    module _ {put : List ℕ} (is-put : put ≡ answers mid.form (held mid.begun) (take n rest)) where
-      pub onward : (new : Reading) (k : ℕ) → new ≡ after mid (take n rest) → k ≡ length put → Answered before (take (from + n) piece) new (h + k)
-      onward new k is-new is-k =
-          let part = subst (λ (k : ℕ). Answered mid (take n rest) new k) (sym (is-k ∙ ap length is-put)) (fed_answered mid new rest room n is-n is-new) in
-          subst (λ (l : List ℕ). Answered before l new (h + k)) joined (more a part)
+    pub onward : (new : Reading) (k : ℕ) → new ≡ after mid (take n rest) → k ≡ length (answers mid.form (held mid.begun) (take (from + n - from) (drop from piece)))
+        → Answered before (take (from + n) piece) new (h + k)
+    onward new k is-new is-k =
+        let count : length (answers mid.form (held mid.begun) (take n rest)) ≡ k = sym (is-k ∙ ap (λ (l : List ℕ). length (answers mid.form (held mid.begun) l)) lent_is) in
+        let part = subst (λ (k : ℕ). Answered mid (take n rest) new k) count (fed_answered mid new rest room n is-n is-new) in
+        let e : take from piece ++ take n rest ≡ take (from + n) piece = ap (λ (l : List ℕ). take from piece ++ take n l) rest_is ∙ sym (take-add from n piece) in
+        subst (λ (l : List ℕ). Answered before l new (h + k)) e (more a part)
 
-      pub onward_written : (o p q : Option (List ℕ)) → Appends o p (answers before.form (held before.begun) (take from piece)) → Appends p q put
-          → Appends o q (answers before.form (held before.begun) (take (from + n) piece))
-      onward_written o p q one other =
-          subst (λ (l : List ℕ). Appends o q (answers before.form (held before.begun) l)) joined (more_written a _ o p q one (subst (Appends p q) is-put other))
+    pub onward_written : (o p q : Option (List ℕ)) → Appends o p (answers before.form (held before.begun) (take from piece))
+        → Appends p q (answers mid.form (held mid.begun) (take (from + n - from) (drop from piece))) → Appends o q (answers before.form (held before.begun) (take (from + n) piece))
+    onward_written o p q one other =
+        let n-is : from + n - from ≡ n = omega arith in
+        let e : take from piece ++ take (from + n - from) (drop from piece) ≡ take (from + n) piece = ap (λ (k : ℕ). take from piece ++ take k (drop from piece)) n-is ∙ sym (take-add from n piece) in
+        subst (λ (l : List ℕ). Appends o q (answers before.form (held before.begun) l)) e (more_written a _ o p q one other)
 
 -- ---- the end of the input
--- `finish` takes the line feed that ends it
-last_fed : (begun : List ℕ) (room n : ℕ) → n ≡ taken_of (closing begun) room → 48 ≤ room → take n (closing begun) ≡ closing begun
+-- the bytes that `finish` takes are those of a line feed
+pub last_fed : (begun : List ℕ) (room n : ℕ) → n ≡ taken_of (closing begun) room → 48 ≤ room → (n ≤ 1) × (take n (10 ∷ []) ≡ closing begun)
 unfolding closing
-last_fed [] room n is-n enough = take_all n [] (omega arith)
-last_fed (x ∷ begun) room n is-n enough = take_all n (10 ∷ []) (omega (arith, is-n, takes_some 1 (10 ∷ []) room (omega arith) (omega arith) enough))
+last_fed [] room n is-n enough = let e : n ≡ 0 = omega (arith, taken_within [] room) in (omega arith, ap (λ (k : ℕ). take k (10 ∷ [])) e)
+last_fed (x ∷ begun) room n is-n enough =
+    let e : n ≡ 1 = omega (arith, taken_within (10 ∷ []) room, takes_some 1 (10 ∷ []) room (omega arith) (omega arith) enough) in
+    (omega arith, ap (λ (k : ℕ). take k (10 ∷ [])) e)
 
 pub last_put : (form : Form) (begun : List ℕ) (room n : ℕ) → n ≡ taken_of (closing begun) room → 48 ≤ room → (buffer out : List ℕ) (put : ℕ)
-    → put ≡ length (answers form begun (take n (closing begun))) → out ≡ answers form begun (take n (closing begun)) ++ drop put buffer → take put out ≡ answers form begun (closing begun)
-last_put form begun room n is-n enough buffer out put is-put is-out = at_start _ buffer out put is-put is-out ∙ ap (answers form begun) (last_fed begun room n is-n enough)
+    → put ≡ length (answers form begun (take n (closing begun))) → out ≡ answers form begun (take n (closing begun)) ++ drop put buffer → take put out ≡ answers form begun (take n (10 ∷ []))
+last_put form begun room n is-n enough buffer out put is-put is-out =
+    let e : take n (closing begun) ≡ take n (10 ∷ []) = ap (take n) (sym (last_fed begun room n is-n enough).1) ∙ take-take n n (10 ∷ []) (omega arith) in
+    at_start _ buffer out put is-put is-out ∙ ap (answers form begun) e
 
 -- a line that is kept ends as it does
 ends_kept : (form : Form) (l : List ℕ) → answers form (held (kept l)) (closing (held (kept l))) ≡ answers form l (closing l)

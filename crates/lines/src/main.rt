@@ -268,7 +268,7 @@ fn answer<W: Write>(
         let fed = stream::feed(next, &piece[from..], output);
         let put = fed.put;
         let to = from + fed.taken;
-        handed += handed_over(writer, &output[..put])?;
+        handed += write(next, writer, &piece[from..to], &output[..put])?;
         next = fed.reading;
         from = to;
     }
@@ -287,11 +287,26 @@ fn end<W: Write>(reading: Reading, writer: &mut W, output: &mut [u8; OUTPUT]) ->
     ensures written { OnOk result (Appends (W.contents writer.old) (W.contents writer.new)
         (answers reading.form (held reading.begun) (closing (held reading.begun)))) }
 {
-    let put = stream::finish(reading, output).put;
-    handed_over(writer, &output[..put])
+    let line_feed = [b'\n'];
+    let fed = stream::finish(reading, output);
+    let taken = fed.taken;
+    let put = fed.put;
+    write(reading, writer, &line_feed[..taken], &output[..put])
 }
 
-// Hands over some bytes, all of them and from the start.
+// Hands over the answers of the lines that end in some bytes, all of them and from the start. Whatever the writer is, and whatever
+// becomes of it, no other bytes are handed over for these.
+fn write<W: Write>(reading: Reading, writer: &mut W, bytes: &[u8], put: &[u8]) -> io::Result<usize>
+    requires { put.now ≡ answers reading.form (held reading.begun) bytes.now }
+    ensures in_bounds { IfOk result (λ count. count ≤ length put.now) }
+    ensures value { IfOk result (λ count. count ≡ length (answers reading.form (held reading.begun) bytes.now)) }
+    ensures written { OnOk result (Appends (W.contents writer.old) (W.contents writer.new)
+        (answers reading.form (held reading.begun) bytes.now)) }
+{
+    handed_over(writer, put)
+}
+
+// Hands over some bytes, all of them and from the start. By itself, so that no other bytes are at hand here.
 fn handed_over<W: Write>(writer: &mut W, put: &[u8]) -> io::Result<usize>
     ensures value { IfOk result (λ count. count ≡ length put.now) }
     ensures written { OnOk result (Appends (W.contents writer.old) (W.contents writer.new) put.now) }
