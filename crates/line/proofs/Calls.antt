@@ -72,6 +72,14 @@ module _ (t : List ℕ) where
   unfolding point_said
   not_read form {n} h = text_is form ∙ fails (text_tests t) _ n (first_failed (text_tests t) said_by n h)
 
+-- so it is answered as what is read of it is
+pub text_by : (form : Form) (t : List ℕ) → text_to form t ≡ following (point_said t) (text_of form)
+text_by form t = go (point_said t) refl
+  where
+    go : (a : Answer Said) → point_said t ≡ a → text_to form t ≡ following a (text_of form)
+    go (gives s) h = sym (read_on t form h)
+    go (refused n) h = not_read t form h
+
 -- in a lent buffer: a is what is answered, and b the buffer afterwards
 module _ (form : Form) (t out : List ℕ) where
   pub line_put : {s : Said} → point_said t ≡ gives s → {a : Answer ℕ} {b : List ℕ} → Written (following (text_of form s) (λ text. placed text (length out))) out a b → Written (line_in form t (length out)) out a b

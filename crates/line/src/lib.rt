@@ -34,6 +34,7 @@ pub enum Form {
 
 // Answers a line in a form. `1 350000.000N 0330000.000E` gives the waypoint `<wpt lat="34.998932533" lon="32.999693628"/>` and a
 // line feed; refused as above, but with 5 of a geoid datum, between 4 and 6.
+#[tactic(auto, using(crate::proofs::Calls::text_by))]
 pub fn line_in(form: Form, text: &[u8], out: &mut [u8]) -> Result<usize, Refusal>
     ensures result_value { written result ≡ counted (line_in form text.now (length out.old)) }
     ensures out_after { out.new ≡ lent (line_in form text.now (length out.old)) out.old }
@@ -149,7 +150,11 @@ fn numbers_line(place: Place, line: &mut [u8; WAYPOINT]) -> Result<usize, Refusa
     let point = place.point();
     let given = point.answer()?;
     match given {
-        Given::Shift(shifts) => Ok(shift_line(shifts, line)),
+        Given::Shift(shifts) => {
+            let end = shift_line(shifts, line);
+            prove!(end <= ANSWER);
+            Ok(end)
+        }
         Given::Geoid(height) => Ok(number_and(height.mm(), b'\n', line)),
     }
 }

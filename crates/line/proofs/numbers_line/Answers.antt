@@ -1,18 +1,23 @@
-use Rattle.std.proofs.Common.{sym, ap, ◌∙◌}
+use Rattle.std.proofs.Common.{sym, ap, ◌∙◌, arith}
 use mir.Syntax.{w32}
 use Rattle.whole.proofs.Words.{of}
 use Rattle.kinds.specs.Answer.{gives}
+use Rattle.datum.specs.Cases.{shift_says}
 use Rattle.kinds.proofs.Answers.{handed_on}
 use Rattle.kinds.proofs.Writing.{laid, none_laid}
 use Rattle.line.specs.Line.{line_feed}
 use Rattle.line.specs.Inside.{place_says}
 use Rattle.line.proofs.Calls.{numbers_by}
+use Rattle.line.proofs.Printing.{answer_line_short}
 use Rattle.line.proofs.Writing.{field, field_long, geoid_field}
 use Rattle.line.proofs.numbers_line.Goals as goal
 
+pub prove-unreachable-requires : goal.prove-unreachable-requires
+prove-unreachable-requires c = omega (arith, c.shift_line-end.ensures.value, answer_line_short (shift_says c.in-Shift.shifts))
+
 pub returns-in-Shift : goal.returns-in-Shift
 returns-in-Shift c =
-    let p = c.shift_line.ensures in
+    let p = c.shift_line-end.ensures in
     let w =
     laid _ c.args.line.now
     (numbers_by (place_says c.args.place) c.point-point.ensures.code_value c.point-point.ensures.latitude_value c.point-point.ensures.longitude_value
