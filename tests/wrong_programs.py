@@ -33,14 +33,14 @@ PROGRAMS = {
     'datum': ['test_pages', 'test_waypoints'], 'position': ['test_texts'], 'numbers': ['test_sheets'], 'layout': ['test_sheets'],
     'sheet': ['test_sheets'], 'decimal': ['test_points', 'test_waypoints'], 'waypoint': ['test_waypoints'],
     'line': ['test_points', 'test_waypoints'], 'stream': ['lines', 'test_waypoints'], 'lines': ['lines', 'lines --gpx', 'lines --gpy'],
-    'buckettin': ['test_calls'],
+    'buckettin': ['test_calls'], 'test_ask': ['test_pages', 'test_points'], 'test_show': ['test_pages', 'test_points'],
 }
 
 # functions that the first program of their crate does not reach, and the one that does: it is tried first then
 REACHED = {
     'test_waypoints': {'LocalPosition::shifted', 'wgs84', 'shifted', 'nine_places', 'billionths', 'up_to_three', 'waypoint_line',
                        'end_for'},
-    'lines --gpx': {'edge_text', 'run', 'in_form'}, 'lines --gpy': {'asked'},
+    'lines --gpx': {'edge_text', 'run', 'in_form'}, 'lines --gpy': {'asked'}, 'test_points': {'part', 'lent'},
 }
 CHOOSER, MAIN = 'one_of_many', 'main_of_one'
 MOST = 30_000                  # lines of sources that are built as one

@@ -3,13 +3,18 @@
 // that are lent: none of the test programs allocates, so that none can run out of memory.
 #![tactic(auto)]
 
-ghost use Rattle.std.specs.Prelude.{◌≡◌, ◌≤◌, length, take, IfOk};
+ghost use Rattle.std.specs.Prelude.{◌≡◌, ◌≤◌, ◌<◌, length, take, IfOk, OnOk, IfSome};
+ghost use Rattle.std.specs.Io.{ReadsAtMost};
+ghost use Rattle.test_ask.specs.Asked.{Fills, IsAsked, AnswersEach};
 
 use std::io;
 use std::io::{Read, Write};
 
 // The letter of a question, if one comes. No letter is 0, which stays where no byte came.
-pub fn letter<R: Read>(questions: &mut R) -> io::Result<Option<u8>> {
+pub fn letter<R: Read>(questions: &mut R) -> io::Result<Option<u8>>
+    ensures asked { IfOk result (IsAsked (R.remaining questions.old) (R.remaining questions.new)) }
+    ensures nonzero { IfOk result (λ letter. IfSome letter (λ letter. 0 < letter)) }
+{
     let mut read = [0; 1];
     fill(questions, &mut read)?;
     match read {
@@ -33,7 +38,9 @@ fn count<R: Read>(questions: &mut R) -> io::Result<usize> {
 }
 
 // Reads until a buffer is full or the input ends. What no byte came for stays as it was.
-pub fn fill<R: Read>(questions: &mut R, read: &mut [u8]) -> io::Result<()> {
+pub fn fill<R: Read>(questions: &mut R, read: &mut [u8]) -> io::Result<()>
+    ensures { OnOk result (Fills (R.remaining questions.old) (R.remaining questions.new) read.new) }
+{
     let mut done = 0;
     // no `for`: each turn goes on by what was read
     while done < read.len() {
@@ -46,11 +53,19 @@ pub fn fill<R: Read>(questions: &mut R, read: &mut [u8]) -> io::Result<()> {
     Ok(())
 }
 
-// The start of a buffer, as much of it as is asked: all where more is.
-pub fn room<'a, R: Read>(questions: &mut R, out: &'a mut [u8]) -> io::Result<&'a mut [u8]>
+// How many bytes of a buffer to use: all where more are asked.
+pub fn room<R: Read>(questions: &mut R, out: &[u8]) -> io::Result<usize>
+    ensures { ReadsAtMost result out.now }
+{
+    Ok(count(questions)?.min(out.len()))
+}
+
+// The start of a buffer, as much of it as is asked.
+// No clause says what the buffer is after the loan, or on Err: that takes a `Lends`, and the prover finds none for a part of a slice.
+pub fn part<'a, R: Read>(questions: &mut R, out: &'a mut [u8]) -> io::Result<&'a mut [u8]>
     ensures { IfOk result (λ part. (length part.now ≤ length out.old) × (part.now ≡ take (length part.now) out.old)) }
 {
-    let n = count(questions)?.min(out.len());
+    let n = room(questions, out)?;
     Ok(&mut out[..n])
 }
 
@@ -58,7 +73,7 @@ pub fn room<'a, R: Read>(questions: &mut R, out: &'a mut [u8]) -> io::Result<&'a
 pub fn text<'a, R: Read>(questions: &mut R, out: &'a mut [u8]) -> io::Result<&'a [u8]>
     ensures { IfOk result (λ text. length text.now ≤ length out.old) }
 {
-    let text = room(questions, out)?;
+    let text = part(questions, out)?;
     fill(questions, text)?;
     Ok(text)
 }
@@ -70,6 +85,7 @@ pub fn each<R: Read, W: Write, F: Fn(&mut R, &mut W, u8) -> io::Result<()>>(
     answer: F,
 ) -> io::Result<()>
     requires { F.IsAlwaysCallable answer }
+    ensures { OnOk result (AnswersEach R.remaining (F.post answer) questions.old answers.old questions.new answers.new) }
 {
     // no `while let`: no measure falls, as no reader says how much it has left; no input has so many turns
     for _ in 0..u64::MAX {

@@ -78,7 +78,7 @@ fn position<R: io::Read, W: Write, F: Fn(i64, &mut [u8]) -> Written>(
 {
     let ms = test_ask::number(questions)?;
     let mut out = [b'#'; 14];
-    let written = write(ms, test_ask::room(questions, &mut out)?);
+    let written = write(ms, test_ask::part(questions, &mut out)?);
     lent(answers, written, &out)
 }
 
@@ -86,7 +86,7 @@ fn line<R: io::Read, W: Write>(questions: &mut R, answers: &mut W) -> io::Result
     let mut text = [0; 40];
     let text = test_ask::text(questions, &mut text)?;
     let mut out = [b'#'; 24];
-    let room = test_ask::room(questions, &mut out)?;
+    let room = test_ask::part(questions, &mut out)?;
     let written = buckettin::buckettin_line(text, room);
     lent(answers, written, &out)
 }
@@ -97,7 +97,7 @@ fn sheet<R: io::Read, W: Write>(questions: &mut R, answers: &mut W) -> io::Resul
     let mut sheet = [0; 20];
     let sheet = test_ask::text(questions, &mut sheet)?;
     let mut out = [b'#'; 20];
-    let room = test_ask::room(questions, &mut out)?;
+    let room = test_ask::part(questions, &mut out)?;
     let written = buckettin::buckettin_sheet(unit, sheet, room);
     said_written(answers, written)?;
     test_show::bytes(answers, &out)
@@ -108,7 +108,7 @@ fn waypoint<R: io::Read, W: Write>(questions: &mut R, answers: &mut W) -> io::Re
     let latitude = test_ask::number(questions)?;
     let longitude = test_ask::number(questions)?;
     let mut out = [b'#'; 50];
-    let room = test_ask::room(questions, &mut out)?;
+    let room = test_ask::part(questions, &mut out)?;
     let written = buckettin::buckettin_waypoint(code, latitude, longitude, room);
     lent(answers, written, &out)
 }

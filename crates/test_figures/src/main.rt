@@ -46,7 +46,7 @@ fn put<R: Read, W: Write>(questions: &mut R, answers: &mut W) -> io::Result<()> 
     let mut text = [0; 20];
     let text = test_ask::text(questions, &mut text)?;
     let mut out = [b'#'; 14];
-    let count = kinds::put(text, test_ask::room(questions, &mut out)?);
+    let count = kinds::put(text, test_ask::part(questions, &mut out)?);
     test_show::lent(answers, count, &out)
 }
 

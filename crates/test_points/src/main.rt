@@ -10,7 +10,7 @@ fn line<R: Read, W: Write>(questions: &mut R, answers: &mut W) -> io::Result<()>
     let mut text = [0; 40];
     let text = test_ask::text(questions, &mut text)?;
     let mut out = [b'#'; 40];
-    let count = line::line(text, test_ask::room(questions, &mut out)?);
+    let count = line::line(text, test_ask::part(questions, &mut out)?);
     test_show::lent(answers, count, &out)
 }
 

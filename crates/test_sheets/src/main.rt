@@ -11,8 +11,8 @@ fn one<R: Read, W: Write>(questions: &mut R, answers: &mut W) -> io::Result<()> 
     let mut sheet = [0; 4522];
     let sheet = test_ask::text(questions, &mut sheet)?;
     let mut out = [b'#'; 6508];
-    let out = test_ask::room(questions, &mut out)?;
-    let count = sheet::work(unit, sheet, test_ask::room(questions, out)?);
+    let out = test_ask::part(questions, &mut out)?;
+    let count = sheet::work(unit, sheet, test_ask::part(questions, out)?);
     test_show::written(answers, count)?;
     test_show::bytes(answers, out)
 }

@@ -44,7 +44,7 @@ fn written<R: Read, W: Write, F: Fn(i64, &mut [u8]) -> Result<usize, Refusal>>(
 {
     let ms = test_ask::number(questions)?;
     let mut out = [b'#'; 14];
-    let count = write(ms, test_ask::room(questions, &mut out)?);
+    let count = write(ms, test_ask::part(questions, &mut out)?);
     test_show::lent(answers, count, &out)
 }
 

@@ -17,7 +17,7 @@ fn point<R: Read, W: Write>(questions: &mut R, answers: &mut W) -> io::Result<()
         longitude: test_ask::number(questions)?,
     };
     let mut out = [b'#'; 50];
-    let room = test_ask::room(questions, &mut out)?;
+    let room = test_ask::part(questions, &mut out)?;
     let count = waypoint::waypoint(point, room);
     test_show::lent(answers, count, &out)
 }
@@ -47,7 +47,7 @@ fn line<R: Read, W: Write>(questions: &mut R, answers: &mut W) -> io::Result<()>
     let mut text = [0; 40];
     let text = test_ask::text(questions, &mut text)?;
     let mut out = [b'#'; 50];
-    let room = test_ask::room(questions, &mut out)?;
+    let room = test_ask::part(questions, &mut out)?;
     let count = line::line_in(Form::Waypoints, text, room);
     test_show::lent(answers, count, &out)
 }
@@ -58,7 +58,7 @@ fn input<R: Read, W: Write>(questions: &mut R, answers: &mut W) -> io::Result<()
     let mut text = [0; 60];
     let text = test_ask::text(questions, &mut text)?;
     let mut out = [b'#'; 150];
-    let room = test_ask::room(questions, &mut out)?;
+    let room = test_ask::part(questions, &mut out)?;
     let fed = stream::feed(Reading::start(Form::Waypoints), text, room);
     write!(answers, " took {} put {}", fed.taken, fed.put)?;
     test_show::text(answers, &out)?;
