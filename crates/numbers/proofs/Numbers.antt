@@ -3,7 +3,7 @@ use Rattle.std.specs.Int.{w32, to_be_bytes, from_be_bytes, cast_signed, cast_uns
 use mathlib.Core.Path.{◌≡◌, refl, sym, ap, ◌∙◌, subst}
 use mathlib.Core.Bool.{true}
 use mathlib.Core.List.{List, [], ◌∷◌}
-use Prim.Native.Nat.{ℕ, suc, ◌+◌, ◌-◌, ◌<◌, ◌≤◌, ◌^◌}
+use Prim.Native.Nat.{ℕ, suc, ◌+◌, ◌-◌, ◌/◌, ◌%◌, ◌<◌, ◌≤◌, ◌^◌}
 use native.Mathlib.Nat.{div-one}
 use native.Mathlib.Omega.{arith}
 use lib.Dec.{ltb}
@@ -11,8 +11,10 @@ use lib.IntN.{ℤ, pos, negsuc}
 use lib.ListN.{length, drop}
 use borrow.Author.Tests.{ltb-true, ltb-false, lt-ltb, le-ltb}
 use borrow.Rule.Slice.PartMut.{put_mid}
-use mir.Val.{SFits}
+use mir.Syntax.{w64}
+use mir.Val.{SFits, to_z}
 use Rattle.whole.proofs.Ring.{pos_sub}
+use Rattle.whole.proofs.Words.{from_unsigned}
 use Rattle.whole.proofs.Bools.{by_test, joined}
 use Rattle.whole.proofs.Places.{from_in_places, from_below, in_from_places}
 use Rattle.whole.proofs.Every.{every_cut}
@@ -43,9 +45,17 @@ pub one_read : (from : ℕ) (t : List ℕ) → from + 1 ≤ length t → at t fr
 unfolding number from_places
 one_read from t h = sym (ap number (part_one from t h) ∙ omega arith)
 
-pub four_written : (n : ℕ) → to_be_bytes w32 n ≡ in_bytes 4 n
+pub word_written : (n : ℕ) → to_be_bytes w32 n ≡ in_bytes 4 n
 unfolding in_bytes in_places
-four_written n = simp div-one refl
+word_written n = simp div-one refl
+
+-- the same by quotients: `in_four` needs it not, but a slip of it is written so, and is to be refused for its numbers alone
+pub four_written : (n : ℕ) → n < 4294967296 → n / 16777216 ∷ n / 65536 % 256 ∷ n / 256 % 256 ∷ n % 256 ∷ [] ≡ in_bytes 4 n
+unfolding in_bytes in_places
+four_written n h =
+    let a : n / 16777216 ≡ n / 16777216 % 256 = omega arith in
+    let d : n % 256 ≡ n / 1 % 256 = omega arith in
+    λ i. a i ∷ n / 65536 % 256 ∷ n / 256 % 256 ∷ d i ∷ []
 
 -- ---- two's complement
 pub complement_is : (x : ℤ) → cast_unsigned w32 x ≡ complement x
@@ -57,6 +67,11 @@ complement_is (negsuc n) = refl
 low_is : (n : ℕ) → n < 2147483648 → signed n ≡ pos n
 unfolding signed
 low_is n h = simp (lt-ltb n 2147483648 h)
+
+-- that half by a test: `signed` needs it not, but a slip of it is written so
+pub signed_low : (n : ℕ) → n < 2147483648 → to_z w64 n ≡ signed n
+unfolding signed
+signed_low n h = (from_unsigned {w = w64} {n = n} (omega arith)).reads ∙ simp (lt-ltb n 2147483648 h)
 
 high_is : (n : ℕ) → 2147483648 ≤ n → n < 4294967296 → signed n ≡ negsuc (4294967296 - suc n)
 unfolding signed

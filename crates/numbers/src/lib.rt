@@ -17,7 +17,7 @@ pub fn unsigned<const N: usize>(bytes: &[u8], at: usize) -> u32
 }
 
 // The number of which the four bytes are the two's complement.
-#[tactic(auto, using(crate::proofs::Numbers::signed_is))]
+#[tactic(auto, using(crate::proofs::Numbers::signed_is, crate::proofs::Numbers::signed_low))]
 pub fn signed(n: u32) -> i64
     ensures { result ≡ signed n }
 {
@@ -25,7 +25,7 @@ pub fn signed(n: u32) -> i64
 }
 
 // An unsigned number in four bytes.
-#[tactic(auto, using(crate::proofs::Numbers::four_written))]
+#[tactic(auto, using(crate::proofs::Numbers::word_written, crate::proofs::Numbers::four_written))]
 pub fn in_four(n: u32) -> [u8; 4]
     ensures { result ≡ in_bytes 4 n }
 {

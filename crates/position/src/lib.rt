@@ -47,7 +47,7 @@ pub fn read_longitude(text: &[u8]) -> Result<LocalLongitude, Refusal>
     // proved to be there, and not tested; by `split_first` the length is tested twice, four instructions more
     let rest = text[1..].as_array::<LATITUDE_BYTES>().unwrap();
     let letter = rest[10];
-    if !(hundreds.is_ascii_digit() & (letter == b'E')) {
+    if !(is_digit(hundreds) & (letter == b'E')) {
         return Err(Refusal::Kind);
     }
     let ms = read_angle(rest)?;
@@ -103,6 +103,13 @@ const SECONDS: u64 = 4_294_967_296;
 
 const TENTHS: u64 = 65_536;
 
+// A digit, by the library's test: in one place for the bytes of both texts that are tested one by one.
+fn is_digit(b: u8) -> bool
+    ensures { result ≡ is_digit b }
+{
+    b.is_ascii_digit()
+}
+
 // What a digit says. Each is widened first: by `u64::from(b - b'0')` a reading takes two instructions more.
 #[tactic(auto, using(whole::proofs::Digits::digit_limits), unfolding(whole::specs::Digits::digit_of))]
 fn digit(b: u8) -> u64
@@ -149,7 +156,7 @@ impl Digits<'_> {
         if !((word & NO_FIGURE == 0) & (more & NO_FIGURE == 0)) {
             return None;
         }
-        if !(text[0].is_ascii_digit() & text[1].is_ascii_digit()) {
+        if !(is_digit(text[0]) & is_digit(text[1])) {
             return None;
         }
         Some(Digits { text, word })

@@ -24,8 +24,14 @@ pub fn rounded(n: i64, d: u64) -> i64
     requires { (2 ≤ d) × (d ≤ 4611686018427387904) }
     ensures { result ≡ round_div n d }
 {
-    let size = n.unsigned_abs();
-    with_sign(n < 0, nearest(size, d) as i64)
+    with_sign(n < 0, nearest(size(n), d) as i64)
+}
+
+// How far n is from zero, of the least i64 too, whose negative is no i64.
+fn size(n: i64) -> u64
+    ensures { result ≡ nat_abs n }
+{
+    n.unsigned_abs()
 }
 
 // The same of sizes: an addition, and a division that is a multiplication and a shift where d is a literal.

@@ -6,8 +6,8 @@ pub returns-clause-value : goal.returns-clause-value
 returns-clause-value g c =
     let t = c.args.bytes.now in
     let long : c.args.at + g.row.N - c.args.at ≡ g.row.N = omega arith in
-    c.from_be_bytes.ensures
-    ∙ unsigned_read c.args.at g.row.N t c.requires.0 c.requires.1 (c.copy_from_slice.ensures.after ∙ ap (λ (n : ℕ). take n (drop c.args.at t)) long)
+    let is = c.from_be_bytes.ensures ∙ unsigned_read c.args.at g.row.N t c.requires.0 c.requires.1 (c.copy_from_slice.ensures.after ∙ ap (λ (n : ℕ). take n (drop c.args.at t)) long) in
+    omega (arith, is)
 
 pub returns-clause-upper_bound : goal.returns-clause-upper_bound
 returns-clause-upper_bound g c =

@@ -31,13 +31,13 @@ ends b t {d} e h =
     let p = both d (is_letter longitude (letter longitude (b ∷ t))) h in
     (sym e ∙ p.0, p.1)
 
-pub returns-then-not-is_ascii_digit-letter : goal.returns-then-not-is_ascii_digit-letter
-returns-then-not-is_ascii_digit-letter c =
+pub returns-then-not-is_digit-letter : goal.returns-then-not-is_digit-letter
+returns-then-not-is_digit-letter c =
     let v = c.in-Some.ensures.cases in
     let w = rw c.unwrap-rest.ensures at c.as_array-2.ensures.cases in
     let b = at c.in-Some.text.now 0 in
     let t = c.unwrap-rest.result.now in
-    let h : (is_digit b && is_letter longitude (letter longitude (b ∷ t))) ≡ false = simp (← c.is_ascii_digit.ensures.value) c.if-not-is_ascii_digit-letter.true in
+    let h : (is_digit b && is_letter longitude (letter longitude (b ∷ t))) ≡ false = simp (← c.is_digit.ensures) c.if-not-is_digit-letter.true in
     wrong_kind longitude (b ∷ t) (omega (arith, long v w))
     (simp (← longitude_is_angle b t) (two_fail (is_digit b) (is_angle latitude t) (is_letter longitude (letter longitude (b ∷ t))) h))
     ∙ whole v w
@@ -48,7 +48,7 @@ returns-in_err-ms c =
     let w = rw c.unwrap-rest.ensures at c.as_array-2.ensures.cases in
     let b = at c.in-Some.text.now 0 in
     let t = c.unwrap-rest.result.now in
-    let e = ends b t c.is_ascii_digit.ensures.value c.if-not-is_ascii_digit-letter.false in
+    let e = ends b t c.is_digit.ensures c.if-not-is_digit-letter.false in
     handed_on (λ x. x.0) c.from_residual.result _ c.from_residual.ensures.1
     ∙ untold longitude (b ∷ t) (omega (arith, long v w)) e.1 (angle latitude t)
     (simp (← longitude_is_angle b t, e.0, ← longitude_in_sixties b t) c.in_err-ms.ensures.value)
@@ -60,7 +60,7 @@ returns c =
     let w = rw c.unwrap-rest.ensures at c.as_array-2.ensures.cases in
     let b = at c.in-Some.text.now 0 in
     let t = c.unwrap-rest.result.now in
-    let e = ends b t c.is_ascii_digit.ensures.value c.if-not-is_ascii_digit-letter.false in
+    let e = ends b t c.is_digit.ensures c.if-not-is_digit-letter.false in
     let r = told (is_angle latitude t) (in_sixties latitude t) c.in_ok-ms.ensures.value in
     let n = c.digit.result * 360000000 + c.in_ok-ms.ms in
     let small : n < 2 ^ hbits w64 = omega (arith, c.digit.ensures.upper_bound, c.in_ok-ms.ensures.upper_bound) in

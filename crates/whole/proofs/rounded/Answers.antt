@@ -22,7 +22,7 @@ returns c =
     let n = c.args.n in
     let d = c.args.d in
     let is : c.nearest.result ≡ round_half_up (nat_abs n) d =
-    c.nearest.ensures ∙ ap (λ (m : ℕ). round_half_up m d) (c.unsigned_abs-size.ensures.value ∙ ap nat_abs (of {w = w64} c.ranges.n).reads) in
+    c.nearest.ensures ∙ ap (λ (m : ℕ). round_half_up m d) (c.size.ensures ∙ ap nat_abs (of {w = w64} c.ranges.n).reads) in
     let below : c.nearest.result < 9223372036854775808 =
     omega (
       arith,
