@@ -1,6 +1,6 @@
 -- The first line feed among some bytes, looked for in parts; and eight bytes tested for a line feed as one word. Assumes nothing.
 use mathlib.Core.Path.{◌≡◌, refl, sym, ap, ◌∙◌, subst}
-use mathlib.Core.Bool.{Bool, true, false}
+use mathlib.Core.Bool.{Bool, true, false, ◌&&◌}
 use mathlib.Core.List.{List, [], ◌∷◌, ◌++◌}
 use Prim.Native.Nat.{ℕ, zero, suc, ◌+◌, ◌-◌, ◌*◌, ◌/◌, ◌%◌, ◌<◌, ◌≤◌}
 use native.Mathlib.Omega.{arith}
@@ -18,10 +18,10 @@ use Rattle.std.proofs.lemmas.Bool.{lt-ltb, ltb-true, ltb-false}
 use Rattle.std.proofs.lemmas.List.{drop-take}
 use Rattle.std.proofs.Math.Nat.{le-div_iff_mul-le, div-mul-le_self}
 use Rattle.std.proofs.lemmas.List.Quantifiers.{position-Some}
-use Rattle.whole.proofs.Bools.{by_test}
+use Rattle.whole.proofs.Bools.{both, by_test}
 use Rattle.kinds.proofs.Bytes.{at}
 use Rattle.line.specs.Line.{line_feed}
-use Rattle.stream.specs.Inside.{first_feed, Clear, AllClear}
+use Rattle.stream.specs.Inside.{first_feed, Clear, AllClear, Tells}
 
 -- ---- where the first line feed is, or how many bytes there are
 unfoldable pub index_of : List ℕ → ℕ
@@ -138,6 +138,30 @@ tested_next [] w all clear (suc k) d h = absurd (omega arith)
 tested_next (v ∷ ws) w all clear zero d h = all zero d (omega arith)
 tested_next (v ∷ ws) w all clear (suc k) d h = tested_next ws w (λ j d m. all (suc j) d (omega arith)) clear k d (omega arith)
 
+-- what a test of words tells. The code tests all words at once; that it may test them in parts is proved too, so that where a
+-- word is left out it is that word for which a proof fails
+pub told : (ws : List (List ℕ)) {clear : Bool} → clear ≡ true → Tells clear ws → AllClear ws
+unfolding Tells
+told ws e tells = tells e
+
+-- a test of those up to a place, where these are all
+pub tells_all : (clear : Bool) (n : ℕ) (ws : List (List ℕ)) → Tells clear (take n ws) → length ws ≤ n → Tells clear ws
+tells_all clear n ws tells h = subst (λ (vs : List (List ℕ)). Tells clear vs) (take_all n ws h) tells
+
+-- and two tests, of those up to a place and of those from it or from one before it on
+halves_clear : (n m : ℕ) (ws : List (List ℕ)) → m ≤ n → AllClear (take n ws) → AllClear (drop m ws) → AllClear ws
+halves_clear n zero ws h all more k d j = more k d j
+halves_clear zero (suc m) ws h all more k d j = absurd (omega arith)
+halves_clear (suc n) (suc m) [] h all more k d j = absurd (omega arith)
+halves_clear (suc n) (suc m) (w ∷ ws) h all more zero d j = all zero d (omega arith)
+halves_clear (suc n) (suc m) (w ∷ ws) h all more (suc k) d j = halves_clear n m ws (omega arith) (λ i e l. all (suc i) e (omega arith)) more k d (omega arith)
+
+pub tell_both : (a b : Bool) (n m k : ℕ) (ws : List (List ℕ)) → Tells a (take n ws) → Tells b (take k (drop m ws)) → m ≤ n → length ws ≤ m + k → Tells (a && b) ws
+unfolding Tells
+tell_both a b n m k ws first second h j e =
+    let p = both a b e in
+    halves_clear n m ws h (first p.0) (subst (λ (vs : List (List ℕ)). AllClear vs) (take_all k (drop m ws) (omega (arith, length-drop m ws))) (second p.1))
+
 pub words_clear : (l : List ℕ) {words : List (List ℕ)} (n : ℕ) → length l / 8 ≡ n → words ≡ first_chunks 8 (length l / 8) l → AllClear words → Clear (take (n * 8) l)
 words_clear l n is-n is_words clear =
     all_clear 8 n l (omega (arith, is-n)) (subst (λ (ws : List (List ℕ)). AllClear ws) (is_words ∙ ap (λ (j : ℕ). first_chunks 8 j l) is-n) clear)
@@ -180,6 +204,10 @@ module _ (l : List ℕ) {k : ℕ} (some : 0 < k) (pieces : List (List ℕ)) (cou
 
     pub none_behind : None ≡ first_feed rest → None ≡ first_feed l
     none_behind e = sym (behind_none l (length l / k * k) enough all (ap first_feed (sym is_rest) ∙ sym e))
+
+-- all bytes of a list, lent as a part of it
+pub part_whole : (j k : ℕ) (l : List ℕ) → j ≡ 0 → length l ≤ k → take k (drop j l) ≡ l
+part_whole j k l e h = ap (λ (n : ℕ). take k (drop n l)) e ∙ take_all k l h
 
 -- ---- the first 28 bytes: three words that are clear, and four bytes
 module _ (l near rest : List ℕ) (is_near : near ≡ take 28 l) (is_rest : rest ≡ drop 28 l) (cut : length rest + 28 ≡ length l) {words : List (List ℕ)} {last : List ℕ}

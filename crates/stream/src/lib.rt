@@ -7,7 +7,7 @@ ghost use Rattle.whole.specs.Digits.{byte_of};
 ghost use Rattle.kinds.specs.Answer.{number_of};
 ghost use Rattle.line.specs.declared.Form.TheVariants.{Numbers, Waypoints};
 ghost use Rattle.stream.specs.Stream.{refused_line, printed, held, kept, started, after, at_end, taken_of, answers, closing};
-ghost use Rattle.stream.specs.Inside.{first_feed, Clear, AllClear, end_for};
+ghost use Rattle.stream.specs.Inside.{first, first_feed, Clear, Tells, end_for};
 
 use kinds::Refusal;
 use line::{Form, LINE, WAYPOINT};
@@ -162,7 +162,7 @@ fn line_feed(bytes: &[u8]) -> Option<usize>
     if !are_clear(words) {
         return by_words(bytes);
     }
-    if let Some(at) = find(last) {
+    if let Some(at) = find(last, b'\n') {
         return Some(words.len() * WORD + at);
     }
     Some(NEAR + by_pieces::<BLOCK, _>(rest, by_words)?)
@@ -172,7 +172,7 @@ fn line_feed(bytes: &[u8]) -> Option<usize>
 fn by_words(bytes: &[u8]) -> Option<usize>
     ensures { result ≡ first_feed bytes.now }
 {
-    by_pieces::<WORD, _>(bytes, find)
+    by_pieces::<WORD, _>(bytes, |part| find(part, b'\n'))
 }
 
 // The same, by pieces of whole words, and where a line feed may be in one, as the parameter finds it.
@@ -188,7 +188,8 @@ fn by_pieces<const N: usize, F: Fn(&[u8]) -> Option<usize>>(
     let (pieces, rest) = bytes.as_chunks::<N>();
     for (i, piece) in pieces.iter().enumerate() {
         let (words, _) = piece.as_chunks::<WORD>();
-        if !are_clear(words) {
+        let clear = are_clear(words);
+        if !clear {
             if let Some(at) = find_in(piece) {
                 return Some(i * N + at);
             }
@@ -197,16 +198,16 @@ fn by_pieces<const N: usize, F: Fn(&[u8]) -> Option<usize>>(
     Some(pieces.len() * N + find_in(rest)?)
 }
 
-// The same, by bytes.
-fn find(bytes: &[u8]) -> Option<usize>
-    ensures { result ≡ first_feed bytes.now }
+// Where the first such byte is, if one is.
+fn find(bytes: &[u8], byte: u8) -> Option<usize>
+    ensures { result ≡ first byte bytes.now }
 {
-    bytes.iter().position(|byte| *byte == b'\n')
+    bytes.iter().position(|other| *other == byte)
 }
 
 // That no line feed is in some words. Each is tested, whatever the others say: so the compiler tests two at a time.
 fn are_clear(words: &[[u8; WORD]]) -> bool
-    ensures { result ≡ true → AllClear words.now }
+    ensures { Tells result words.now }
 {
     words
         .iter()

@@ -1,7 +1,7 @@
 use Rattle.std.proofs.Common.{arith, sym, ◌∙◌, ◌≡◌, ◌%◌, length}
-use Rattle.stream.proofs.Finding.{piece_clear, piece_long, found_in, one_more, found_behind, none_behind}
+use Rattle.stream.proofs.Finding.{told, tells_all, tell_both, piece_clear, piece_long, found_in, one_more, found_behind, none_behind}
 use Rattle.stream.proofs.by_pieces.Goals as goal
-use Rattle.stream.proofs.by_pieces.Goals.{then-not-are_clear+in_default, else-not-are_clear}
+use Rattle.stream.proofs.by_pieces.Goals.{then-not-clear+in_default, else-not-clear}
 
 pub returns-in-Some : goal.returns-in-Some
 returns-in-Some g c =
@@ -15,7 +15,7 @@ loop-i-preserved g c =
       piece_long c.args.bytes.now (omega arith) _ c.as_chunks.ensures.front_len c.loop-i.invariant c.as_chunks.ensures.front c.loop-i-test.true c.index-pieces-i.is,
     ) in
     one_more c.args.bytes.now (omega arith) _ c.as_chunks.ensures.front_len c.loop-i.invariant c.as_chunks.ensures.front c.loop-i-test.true c.index-pieces-i.is
-    (elim c.if-not-are_clear.branch [ then-not-are_clear+in_default w ↦ c.requires.finds _ _ w.in_default.ensures | else-not-are_clear w ↦ sym (piece_clear _ whole c.as_chunks-in-loop-i.ensures.front (c.are_clear.ensures w.if-not-are_clear.false)) ])
+    (elim c.if-not-clear.branch [ then-not-clear+in_default w ↦ c.requires.finds _ _ w.in_default.ensures | else-not-clear w ↦ sym (piece_clear _ whole c.as_chunks-in-loop-i.ensures.front (told _ w.if-not-clear.false (search (arith, tells_all, tell_both)))) ])
 
 pub returns-in_err-find_in : goal.returns-in_err-find_in
 returns-in_err-find_in g c =
