@@ -126,15 +126,13 @@ impl Written {
 pub fn buckettin_shift(code: i64, latitude_ms: i64, longitude_ms: i64) -> Shift
     ensures { result ≡ shift_fields (shift_of code latitude_ms longitude_ms) }
 {
-    let point = point(code, latitude_ms, longitude_ms);
-    Shift::from(point.shift())
+    Shift::from(point(code, latitude_ms, longitude_ms).shift())
 }
 
 pub fn buckettin_geoid(code: i64, latitude_ms: i64, longitude_ms: i64) -> Geoid
     ensures { result ≡ geoid_fields (geoid_of code latitude_ms longitude_ms) }
 {
-    let point = point(code, latitude_ms, longitude_ms);
-    Geoid::from(point.geoid())
+    Geoid::from(point(code, latitude_ms, longitude_ms).geoid())
 }
 
 pub fn buckettin_first(code: i64, latitude_ms: i64, longitude_ms: i64) -> f64

@@ -7,4 +7,4 @@ use Rattle.buckettin.proofs.buckettin_geoid.Goals as goal
 pub returns : goal.returns
 returns c =
     c.from.ensures
-    ∙ ap geoid_fields (c.geoid.ensures ∙ pointed c.ranges.code c.ranges.latitude_ms c.ranges.longitude_ms c.point-point.ensures geoid_of)
+    ∙ ap geoid_fields (c.geoid.ensures ∙ pointed c.ranges.code c.ranges.latitude_ms c.ranges.longitude_ms c.point.ensures geoid_of)

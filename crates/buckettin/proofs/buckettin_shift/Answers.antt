@@ -7,4 +7,4 @@ use Rattle.buckettin.proofs.buckettin_shift.Goals as goal
 pub returns : goal.returns
 returns c =
     c.from.ensures
-    ∙ ap shift_fields (c.shift.ensures ∙ pointed c.ranges.code c.ranges.latitude_ms c.ranges.longitude_ms c.point-point.ensures shift_of)
+    ∙ ap shift_fields (c.shift.ensures ∙ pointed c.ranges.code c.ranges.latitude_ms c.ranges.longitude_ms c.point.ensures shift_of)
