@@ -185,7 +185,7 @@ def self_test(at_once):
     good = [slip('half', *half), slip('answered', 'q * u + nearest', 'r * u + nearest'),
             slip('law', *law, 'specs/Round.antt', ['examples.five_halves'])]
     bad = [slip('right', 'if below { -x } else { x }', 'if !below { x } else { -x }'), slip('text', 'q * u + nearest', 'q * w + nearest'),
-           slip('name', 'nearest(size, d) as i64', '((size + d / 2) / d) as i64'),
+           slip('name', 'nearest(size(n), d) as i64', '((size(n) + d / 2) / d) as i64'),
            slip('other-law', *law, 'specs/Round.antt', ['same_below_zero'])]
     seen = [re.search(r'whole/test: ([\w-]+)', line)[1] for line in tries(good + bad, at_once)]
     with tempfile.TemporaryDirectory() as seeds, tempfile.TemporaryDirectory() as room:
